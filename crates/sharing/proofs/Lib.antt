@@ -1,0 +1,4 @@
+pub mod Admission
+pub mod Fairness
+pub mod Layers
+pub mod Writing

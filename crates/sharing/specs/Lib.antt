@@ -1,0 +1,3 @@
+pub mod Fair
+pub mod Refusals
+pub mod Rules

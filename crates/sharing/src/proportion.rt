@@ -1,0 +1,45 @@
+//! Proportion.
+ghost use mathlib.Core.Path.{_≡_};
+ghost use Prim.Native.Nat.{_*_, _^_, _<_};
+ghost use Rattle.std.specs.shelf.Lists.{sum};
+ghost use Rattle.sharing.specs.Rules.{portion, proportion};
+use crate::refusal::ShareRefusal;
+use crate::rule::SharingRule;
+use crate::rule::admit;
+
+/// Proportion: each place gets its part of the pool by need, and what rounding leaves over goes to the next place.
+#[derive(Clone, Copy)]
+pub struct Proportion;
+
+pub impl SharingRule for Proportion as ProportionRule {
+    ghost sharing = { λ _. proportion };
+
+    fn share(&self, pool: u64, needs: &[u64], shares: &mut [u64]) -> Result<(), ShareRefusal> {
+        admit(pool, needs, shares.len())?;
+        let all = sum_of(needs);
+        let given = pool.min(all);
+        let mut before = 0;
+        for (place, need) in needs.iter().enumerate() {
+            let with_own = before + *need;
+            shares[place] = portion_of(given, all, with_own) - portion_of(given, all, before);
+            before = with_own;
+        }
+        Ok(())
+    }
+}
+
+// The sum of needs that were admitted.
+fn sum_of(needs: &[u64]) -> u64
+    requires { ⌜ sum (now needs) < 2 ^ 64 ⌝ }
+    ensures { λ r. ⌜ r ≡ sum (now (needs .entry)) ⌝ }
+{
+    needs.iter().sum()
+}
+
+// The portion of `given` that falls to the first `first` kWh of all needs, rounded down.
+fn portion_of(given: u64, all: u64, first: u64) -> u64
+    requires { ⌜ given * first < 2 ^ 64 ⌝ }
+    ensures { λ r. ⌜ r ≡ portion given all first ⌝ }
+{
+    if all == 0 { 0 } else { given * first / all }
+}
