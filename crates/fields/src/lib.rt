@@ -1,6 +1,7 @@
 //! Reads the parts of a text: the numbers in it, what its commas separate, and where its lines end.
-ghost use Prim.Native.Nat.{_≤_};
-ghost use Rattle.fields.specs.Cuts.{Cuts};
+ghost use Prim.Native.Nat.{_<_, _≤_};
+ghost use lib.ListN.{length};
+ghost use Rattle.fields.specs.Cuts.{Around, Cuts};
 ghost use Rattle.fields.specs.Digits.{Digit, Grown, Plain, Spelled};
 ghost use Rattle.fields.specs.Marks.{Next, NextLineFeed};
 ghost use Rattle.fields.specs.Reads.{Reads};
@@ -30,7 +31,17 @@ pub fn cut(text: &[u8]) -> Option<(&[u8], &[u8])>
     ensures { λ r. ⌜ Cuts 44 (now (text .entry)) r ⌝ }
 {
     match next(text, 0, COMMA) {
-        Some(i) => Some((&text[..i], &text[i + 1..])),
+        Some(i) => Some(around(text, i)),
+        None => None,
+    }
+}
+
+/// The first line without its line feed and the text after it, or none where no line ends.
+pub fn line(text: &[u8]) -> Option<(&[u8], &[u8])>
+    ensures { λ r. ⌜ Cuts 10 (now (text .entry)) r ⌝ }
+{
+    match next_line_feed(text, 0) {
+        Some(i) => Some(around(text, i)),
         None => None,
     }
 }
@@ -40,6 +51,14 @@ pub fn next_line_feed(text: &[u8], from: usize) -> Option<usize>
     ensures { λ r. ⌜ NextLineFeed (now (text .entry)) from r ⌝ }
 {
     next(text, from, LINE_FEED)
+}
+
+// The text before the byte at `i` and the text after it.
+fn around(text: &[u8], i: usize) -> (&[u8], &[u8])
+    requires { ⌜ i < length (now text) ⌝ }
+    ensures { λ r. ⌜ Around (now (text .entry)) i r ⌝ }
+{
+    (&text[..i], &text[i + 1..])
 }
 
 // The index of the first byte at or after `from` that is the mark.

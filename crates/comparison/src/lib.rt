@@ -1,0 +1,3 @@
+//! Compares the sharing rules on one month's pool: from a text to a table.
+
+pub mod question;

@@ -1,0 +1,145 @@
+//! The text of a question: a pool with its needs, and the parts if there are any.
+ghost use mathlib.Core.Path.{_≡_};
+ghost use Prim.Native.Nat.{_≤_};
+ghost use lib.ListN.{length};
+ghost use Rattle.std.specs.Of.Vec.{vec-items, vec-len};
+ghost use Rattle.comparison.specs.Questions.{PartsRead, QuestionRead, at};
+ghost use Rattle.comparison.specs.Rows.{FieldRead, RowRead};
+ghost use Rattle.comparison.specs.declared.question.Unread.the-variants.{At, Memory};
+use fields::cut;
+use fields::line;
+use fields::number;
+use sharing::rule::PLACES;
+use std::alloc::AllocError;
+use std::alloc::Global;
+use std::alloc::Refused;
+
+/// The largest number that a question may have: ten digits.
+pub const MOST_NUMBER: u64 = 9_999_999_999;
+
+/// What is wrong at a place of the text.
+#[derive(Clone, Copy, PartialEq, Eq, Debug)]
+pub enum Wrong {
+    /// The line does not end in a line feed.
+    LineFeed,
+    /// The field is no number of up to ten digits without a needless zero in front.
+    Number,
+    /// The line ends before the field.
+    Missing,
+    /// The line goes on to a field that it may not have.
+    Surplus,
+    /// The text goes on to a line that it may not have.
+    Line,
+}
+
+/// The first place at which a text is no question: its line and its field, from 1, and what is wrong there; the field is 0 where the whole line is meant.
+#[derive(Clone, Copy, PartialEq, Eq, Debug)]
+pub struct Fault {
+    pub line: usize,
+    pub field: usize,
+    pub wrong: Wrong,
+}
+
+/// Why no question was read.
+#[derive(Clone, Copy, PartialEq, Eq, Debug)]
+pub enum Unread {
+    /// The text is no question.
+    At(Fault),
+    /// There was no memory.
+    Memory,
+}
+
+/// A pool, the needs of its places, and the parts of the first places, the others having none.
+#[derive(Drop)]
+pub struct Question {
+    pub pool: u64,
+    pub needs: Vec<u64>,
+    pub parts: Vec<u64>,
+}
+
+pub impl From<AllocError> for Unread as UnreadFromAlloc {
+    ghost converts = { λ _ r. r ≡ Memory };
+
+    fn from(_e: AllocError) -> Unread {
+        Unread::Memory
+    }
+}
+
+pub impl<T: Drop> From<Refused<T>> for Unread as UnreadFromRefused {
+    ghost converts = { λ _ r. r ≡ Memory };
+
+    fn from(_e: Refused<T>) -> Unread {
+        Unread::Memory
+    }
+}
+
+fn wrong_at(line: usize, field: usize, wrong: Wrong) -> Unread
+    ensures { λ r. ⌜ r ≡ At (at line field wrong) ⌝ }
+{
+    Unread::At(Fault { line, field, wrong })
+}
+
+// Adds the number of one more field of a line that may have `most` fields.
+fn read_field(found: &mut Vec<u64>, line: usize, field: &[u8], most: usize) -> Result<(), Unread>
+    requires few { ⌜ most ≤ 33 ⌝ }
+    requires room { ⌜ length (vec-items (now found)) ≤ most ⌝ }
+    ensures { λ r. ⌜ FieldRead line most (vec-items (now (found .entry))) (now (field .entry)) r (vec-items (now (found .exit))) ⌝ }
+{
+    let before = found.len();
+    if before == most {
+        return Err(wrong_at(line, before + 1, Wrong::Surplus));
+    }
+    let Some(n) = number(field, MOST_NUMBER) else {
+        return Err(wrong_at(line, before + 1, Wrong::Number));
+    };
+    found.push(n)?;
+    Ok(())
+}
+
+// The numbers of a line that may have `most` fields.
+fn read_row(heap: Global, line: usize, text: &[u8], most: usize) -> Result<Vec<u64>, Unread>
+    requires few { ⌜ most ≤ 33 ⌝ }
+    ensures { λ r. ⌜ RowRead line most (now (text .entry)) r ⌝ }
+{
+    let mut found = Vec::new(heap);
+    let mut rest = text;
+    while let Some((field, after)) = cut(rest) {
+        read_field(&mut found, line, field, most)?;
+        rest = after;
+    }
+    read_field(&mut found, line, rest, most)?;
+    Ok(found)
+}
+
+// The parts of a second line, or none where the text has ended.
+fn read_parts(heap: Global, text: &[u8]) -> Result<Vec<u64>, Unread>
+    ensures { λ r. ⌜ PartsRead (now (text .entry)) r ⌝ }
+{
+    if text.is_empty() {
+        return Ok(Vec::new(heap));
+    }
+    let Some((second, rest)) = line(text) else {
+        return Err(wrong_at(2, 0, Wrong::LineFeed));
+    };
+    let parts = read_row(heap, 2, second, PLACES)?;
+    if !rest.is_empty() {
+        return Err(wrong_at(3, 0, Wrong::Line));
+    }
+    Ok(parts)
+}
+
+/// Reads a question, or tells the first place at which the text is none.
+pub fn read(heap: Global, text: &[u8]) -> Result<Question, Unread>
+    ensures { λ r. ⌜ QuestionRead (now (text .entry)) r ⌝ }
+{
+    let Some((first, rest)) = line(text) else {
+        return Err(wrong_at(1, 0, Wrong::LineFeed));
+    };
+    let mut needs = read_row(heap, 1, first, PLACES + 1)?;
+    let pool = needs.remove(0);
+    if needs.is_empty() {
+        return Err(wrong_at(1, 2, Wrong::Missing));
+    }
+    let parts = read_parts(heap, rest)?;
+    Ok(Question { pool, needs, parts })
+}
