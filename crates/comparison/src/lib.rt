@@ -1,3 +1,4 @@
 //! Compares the sharing rules on one month's pool: from a text to a table.
 
+pub mod columns;
 pub mod question;

@@ -1,0 +1,151 @@
+//! What each rule gives every place, and what it leaves of the pool.
+ghost use mathlib.Core.Path.{_≡_};
+ghost use Prim.Native.Nat.{_-_, _≤_};
+ghost use Rattle.std.specs.Of.Vec.{vec-items};
+ghost use Rattle.std.specs.Vec.{made};
+ghost use Rattle.std.specs.shelf.Lists.{sum};
+ghost use Rattle.comparison.specs.Columns.{ColumnMade, Compared, PartsColumnMade, padded};
+ghost use Rattle.comparison.specs.declared.columns.Refusal.the-variants.{Memory, OfParts, OfRule};
+use sharing::order::LineOrder;
+use sharing::order::LineOrderRule;
+use sharing::parts::Parts;
+use sharing::parts::PartsRule;
+use sharing::proportion::Proportion;
+use sharing::proportion::ProportionRule;
+use sharing::refusal::PartsRefusal;
+use sharing::refusal::PartsRefusalDebug;
+use sharing::refusal::PartsRefusalPartialEq;
+use sharing::refusal::ShareRefusal;
+use sharing::refusal::ShareRefusalDebug;
+use sharing::refusal::ShareRefusalPartialEq;
+use sharing::rule::PLACES;
+use sharing::rule::SharingRule;
+use std::alloc::AllocError;
+use std::alloc::Global;
+use std::alloc::Refused;
+
+/// Why there is no table.
+#[derive(Clone, Copy, PartialEq, Eq, Debug)]
+pub enum Refusal {
+    /// A rule refused the pool and the needs.
+    OfRule(ShareRefusal),
+    /// The parts were refused.
+    OfParts(PartsRefusal),
+    /// There was no memory.
+    Memory,
+}
+
+pub impl From<ShareRefusal> for Refusal as RefusalFromShare {
+    ghost converts = { λ e r. r ≡ OfRule e };
+
+    fn from(e: ShareRefusal) -> Refusal {
+        Refusal::OfRule(e)
+    }
+}
+
+pub impl From<PartsRefusal> for Refusal as RefusalFromParts {
+    ghost converts = { λ e r. r ≡ OfParts e };
+
+    fn from(e: PartsRefusal) -> Refusal {
+        Refusal::OfParts(e)
+    }
+}
+
+pub impl From<AllocError> for Refusal as RefusalFromAlloc {
+    ghost converts = { λ _ r. r ≡ Memory };
+
+    fn from(_e: AllocError) -> Refusal {
+        Refusal::Memory
+    }
+}
+
+pub impl<T: Drop> From<Refused<T>> for Refusal as RefusalFromRefused {
+    ghost converts = { λ _ r. r ≡ Memory };
+
+    fn from(_e: Refused<T>) -> Refusal {
+        Refusal::Memory
+    }
+}
+
+/// The shares by a rule, and what it leaves of the pool.
+#[derive(Drop)]
+pub struct Column {
+    pub shares: Vec<u64>,
+    pub left: u64,
+}
+
+// The column of a rule.
+fn column_of<R: SharingRule>(
+    heap: Global,
+    rule: &R,
+    pool: u64,
+    needs: &[u64],
+) -> Result<Column, Refusal>
+    ensures { λ r. ⌜ ColumnMade (R·SharingRule .sharing (now (rule .entry))) pool (now (needs .entry)) r ⌝ }
+{
+    let mut shares = vec![in heap; 0; needs.len()]?;
+    rule.share(pool, needs, &mut shares)?;
+    let left = left_of(pool, &shares);
+    Ok(Column { shares, left })
+}
+
+// What shares that come from the pool leave of it.
+fn left_of(pool: u64, shares: &[u64]) -> u64
+    requires { ⌜ sum (now shares) ≤ pool ⌝ }
+    ensures { λ r. ⌜ r ≡ pool - sum (now (shares .entry)) ⌝ }
+{
+    let given: u64 = shares.iter().sum();
+    pool - given
+}
+
+// The parts of all 32 places, of which those past the list are 0.
+fn pad(heap: Global, parts: &[u64]) -> Result<Vec<u64>, AllocError>
+    ensures { λ r. ⌜ made r (λ v. vec-items v ≡ padded (now (parts .entry))) ⌝ }
+{
+    let mut all = Vec::from_slice(heap, parts)?;
+    for _ in parts.len()..PLACES {
+        all.push(0)?;
+    }
+    Ok(all)
+}
+
+// The column of the layer that gives the places these parts ahead of the rule.
+fn column_with_parts<R: SharingRule + Drop>(
+    heap: Global,
+    rule: R,
+    parts: &[u64],
+    pool: u64,
+    needs: &[u64],
+) -> Result<Column, Refusal>
+    ensures { λ r. ⌜ PartsColumnMade (R·SharingRule .sharing rule) (now (parts .entry)) pool (now (needs .entry)) r ⌝ }
+{
+    let mut layer = Parts::over(rule);
+    layer.set(parts)?;
+    column_of(heap, &layer, pool, needs)
+}
+
+/// The four columns of a comparison.
+#[derive(Drop)]
+pub struct Comparison {
+    pub line_order: Column,
+    pub proportion: Column,
+    pub parts_over_line_order: Column,
+    pub parts_over_proportion: Column,
+}
+
+/// Compares the rules on a pool and its needs, the places past the list of parts having none.
+pub fn compare(heap: Global, pool: u64, needs: &[u64], parts: &[u64]) -> Result<Comparison, Refusal>
+    ensures { λ r. ⌜ Compared pool (now (needs .entry)) (now (parts .entry)) r ⌝ }
+{
+    let line_order = column_of(heap, &LineOrder, pool, needs)?;
+    let proportion = column_of(heap, &Proportion, pool, needs)?;
+    let parts = pad(heap, parts)?;
+    let parts_over_line_order = column_with_parts(heap, LineOrder, &parts, pool, needs)?;
+    let parts_over_proportion = column_with_parts(heap, Proportion, &parts, pool, needs)?;
+    Ok(Comparison {
+        line_order,
+        proportion,
+        parts_over_line_order,
+        parts_over_proportion,
+    })
+}
