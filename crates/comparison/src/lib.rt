@@ -2,3 +2,4 @@
 
 pub mod columns;
 pub mod question;
+pub mod table;
