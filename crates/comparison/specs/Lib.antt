@@ -2,3 +2,5 @@ pub mod Rows
 pub mod Questions
 pub mod Columns
 pub mod Tables
+pub mod Faults
+pub mod Reports

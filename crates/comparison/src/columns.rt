@@ -4,7 +4,9 @@ ghost use Prim.Native.Nat.{_-_, _≤_};
 ghost use Rattle.std.specs.Of.Vec.{vec-items};
 ghost use Rattle.std.specs.Vec.{made};
 ghost use Rattle.std.specs.shelf.Lists.{sum};
+ghost use Rattle.std.specs.declared.option.Option.the-variants.{Some};
 ghost use Rattle.comparison.specs.Columns.{ColumnMade, Compared, PartsColumnMade, padded};
+ghost use Rattle.comparison.specs.Faults.{refusal-told};
 ghost use Rattle.comparison.specs.declared.columns.Refusal.the-variants.{Memory, OfParts, OfRule};
 use sharing::order::LineOrder;
 use sharing::order::LineOrderRule;
@@ -14,15 +16,18 @@ use sharing::proportion::Proportion;
 use sharing::proportion::ProportionRule;
 use sharing::refusal::PartsRefusal;
 use sharing::refusal::PartsRefusalDebug;
+use sharing::refusal::PartsRefusalDisplay;
 use sharing::refusal::PartsRefusalPartialEq;
 use sharing::refusal::ShareRefusal;
 use sharing::refusal::ShareRefusalDebug;
+use sharing::refusal::ShareRefusalDisplay;
 use sharing::refusal::ShareRefusalPartialEq;
 use sharing::rule::PLACES;
 use sharing::rule::SharingRule;
 use std::alloc::AllocError;
 use std::alloc::Global;
 use std::alloc::Refused;
+use std::fmt;
 
 /// Why there is no table.
 #[derive(Clone, Copy, PartialEq, Eq, Debug)]
@@ -33,6 +38,18 @@ pub enum Refusal {
     OfParts(PartsRefusal),
     /// There was no memory.
     Memory,
+}
+
+pub impl fmt::Display for Refusal as RefusalDisplay {
+    ghost shown = { λ refusal. Some (refusal-told refusal) };
+
+    fn fmt<W: fmt::Write>(&self, f: &mut fmt::Formatter<W>) -> fmt::Result {
+        match self {
+            Refusal::OfRule(refusal) => write!(f, "refused by {refusal}"),
+            Refusal::OfParts(refusal) => write!(f, "refused by {refusal}"),
+            Refusal::Memory => write!(f, "there is no memory"),
+        }
+    }
 }
 
 pub impl From<ShareRefusal> for Refusal as RefusalFromShare {

@@ -2,4 +2,5 @@
 
 pub mod columns;
 pub mod question;
+pub mod report;
 pub mod table;

@@ -3,6 +3,8 @@ ghost use mathlib.Core.Path.{_≡_};
 ghost use Prim.Native.Nat.{_≤_};
 ghost use lib.ListN.{length};
 ghost use Rattle.std.specs.Of.Vec.{vec-items, vec-len};
+ghost use Rattle.std.specs.declared.option.Option.the-variants.{Some};
+ghost use Rattle.comparison.specs.Faults.{fault-told, unread-told, wrong-words};
 ghost use Rattle.comparison.specs.Questions.{PartsRead, QuestionRead, at};
 ghost use Rattle.comparison.specs.Rows.{FieldRead, RowRead};
 ghost use Rattle.comparison.specs.declared.question.Unread.the-variants.{At, Memory};
@@ -13,6 +15,7 @@ use sharing::rule::PLACES;
 use std::alloc::AllocError;
 use std::alloc::Global;
 use std::alloc::Refused;
+use std::fmt;
 
 /// The largest number that a question may have: ten digits.
 pub const MOST_NUMBER: u64 = 9_999_999_999;
@@ -32,12 +35,43 @@ pub enum Wrong {
     Line,
 }
 
+impl Wrong {
+    /// What is wrong, in words.
+    pub fn words(self) -> &'static str
+        ensures { λ r. ⌜ now r ≡ wrong-words self ⌝ }
+    {
+        match self {
+            Wrong::LineFeed => "the line does not end in a line feed",
+            Wrong::Number =>
+                "this is no number of up to ten digits without a needless zero in front",
+            Wrong::Missing => "the line ends before its first need",
+            Wrong::Surplus => "the line has more fields than it may",
+            Wrong::Line => "the text goes on after its second line",
+        }
+    }
+}
+
 /// The first place at which a text is no question: its line and its field, from 1, and what is wrong there; the field is 0 where the whole line is meant.
 #[derive(Clone, Copy, PartialEq, Eq, Debug)]
 pub struct Fault {
     pub line: usize,
     pub field: usize,
     pub wrong: Wrong,
+}
+
+pub impl fmt::Display for Fault as FaultDisplay {
+    ghost shown = { λ fault. Some (fault-told fault) };
+
+    fn fmt<W: fmt::Write>(&self, f: &mut fmt::Formatter<W>) -> fmt::Result {
+        let line = self.line;
+        let field = self.field;
+        let words = self.wrong.words();
+        if field == 0 {
+            write!(f, "line {line}: {words}")
+        } else {
+            write!(f, "line {line}, field {field}: {words}")
+        }
+    }
 }
 
 /// Why no question was read.
@@ -47,6 +81,17 @@ pub enum Unread {
     At(Fault),
     /// There was no memory.
     Memory,
+}
+
+pub impl fmt::Display for Unread as UnreadDisplay {
+    ghost shown = { λ unread. Some (unread-told unread) };
+
+    fn fmt<W: fmt::Write>(&self, f: &mut fmt::Formatter<W>) -> fmt::Result {
+        match self {
+            Unread::At(fault) => write!(f, "{fault}"),
+            Unread::Memory => write!(f, "there is no memory"),
+        }
+    }
 }
 
 /// A pool, the needs of its places, and the parts of the first places, the others having none.
