@@ -1,0 +1,20 @@
+-- Worked cases of the rules, each from the definitions that the contracts of the code cite.
+use mathlib.Core.Path.{_≡_}
+use mathlib.Core.List.{List, [], _∷_}
+use Prim.Native.Nat.{ℕ}
+use lib.ListN.{replicate}
+use Rattle.sharing.specs.Rules.{line-order, proportion, with-parts}
+
+-- three places that need 3 kWh each
+abbrev pub needs : List ℕ
+needs = 3 ∷ 3 ∷ 3 ∷ []
+
+-- half of the pool for the first place, a quarter for each of the next two, and nothing for the other 29
+abbrev pub parts : List ℕ
+parts = 5000 ∷ 2500 ∷ 2500 ∷ replicate 29 0
+
+-- a pool of 5 kWh, shared by each rule
+pub record Shared : Type 0 where
+  pub by-line-order : line-order 5 needs ≡ 3 ∷ 2 ∷ 0 ∷ []
+  pub by-proportion : proportion 5 needs ≡ 1 ∷ 2 ∷ 2 ∷ []
+  pub by-parts-over-line-order : with-parts line-order parts 5 needs ≡ 3 ∷ 1 ∷ 1 ∷ []
