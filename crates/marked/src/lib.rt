@@ -4,5 +4,4 @@ ghost use Rattle.marked.specs.Cases.{Shared};
 /// Holds the proof of every worked case; there is nothing to run.
 pub fn cases_stand()
     ensures { λ _. ⌜ Shared ⌝ }
-{
-}
+{}
