@@ -9,7 +9,9 @@ use Rattle.std.specs.shelf.Lists.{All}
 use Rattle.std.proofs.shelf.Lists.{nil-from-length}
 use Rattle.fields.specs.Cuts.{Lacks}
 use Rattle.comparison.specs.Rows.{Short, RowOf, NoRow, row}
-use Rattle.comparison.specs.Questions.{Asks, Begins, NoPartsRead, NoQuestionRead, PartsOf, at, second-endless, second-unread, third-line, first-endless, first-unread, no-need, no-parts}
+use Rattle.comparison.specs.Questions.{Asks, AsksNothing, Begins, NoPartsRead, NoQuestion, NoQuestionRead, PartsOf, at, second-endless, second-unread, third-line, first-endless, first-unread, no-need, no-parts}
+use Rattle.comparison.proofs.Exact.{asks-nothing}
+use Rattle.comparison.specs.declared.question.Fault.{Fault}
 use Rattle.comparison.specs.declared.question.Unread.{Unread}
 use Rattle.comparison.specs.declared.question.Unread.the-variants.{At, Memory}
 use Rattle.comparison.specs.declared.question.Wrong.the-variants.{LineFeed, Missing, Line}
@@ -42,8 +44,11 @@ module _ (bs second rest : List ℕ) (begins : Begins bs second rest) where
 
 -- ---- the question
 
+told : {bs : List ℕ} {fault : Fault} → NoQuestion bs fault → NoQuestion bs fault × AsksNothing bs
+told {bs} {fault} why = (why, asks-nothing bs fault why)
+
 pub question-endless : (bs : List ℕ) (why : Unread) → why ≡ At (at 1 0 LineFeed) → Lacks 10 bs → NoQuestionRead bs why
-question-endless bs why is none = subst (NoQuestionRead bs) (sym is) (first-endless none)
+question-endless bs why is none = subst (NoQuestionRead bs) (sym is) (told (first-endless none))
 
 -- the first number of a row is the pool, and the others are the needs
 uncons : (ns needs : List ℕ) (pool : ℕ) → 1 ≤ length ns → pool ≡ getD ns 0 pool → needs ≡ removed ns 0 → ns ≡ pool ∷ needs
@@ -52,7 +57,7 @@ uncons (n ∷ ns) needs pool some first others = ap₂ (λ x l. x ∷ l) (sym fi
 
 module _ (bs first rest : List ℕ) (begins : Begins bs first rest) where
   pub question-no-row : (why : Unread) → NoRow 1 33 first why → NoQuestionRead bs why
-  question-no-row (At fault) stops = first-unread first rest fault begins stops
+  question-no-row (At fault) stops = told (first-unread first rest fault begins stops)
   question-no-row Memory stops = tt
 
   module _ (ns needs : List ℕ) (pool : ℕ) (is-row : RowOf 33 first ns) (head : pool ≡ getD ns 0 pool) (others : needs ≡ removed ns 0) where
@@ -62,11 +67,11 @@ module _ (bs first rest : List ℕ) (begins : Begins bs first rest) where
     pub question-no-need : (why : Unread) → why ≡ At (at 1 2 Missing) → length needs ≡ 0 → NoQuestionRead bs why
     question-no-need why is none =
         let alone = subst (λ l. RowOf 33 first (pool ∷ l)) (nil-from-length needs none) whole-row in
-        subst (NoQuestionRead bs) (sym is) (no-need first rest pool begins alone)
+        subst (NoQuestionRead bs) (sym is) (told (no-need first rest pool begins alone))
 
     with-need : (l : List ℕ) → RowOf 33 first (pool ∷ l) → 0 < length l → (why : Unread) → NoPartsRead rest why → NoQuestionRead bs why
     with-need [] r some why none = absurd (omega arith)
-    with-need (need ∷ l) r some (At fault) none = no-parts first rest pool need l fault begins r none
+    with-need (need ∷ l) r some (At fault) none = told (no-parts first rest pool need l fault begins r none)
     with-need (need ∷ l) r some Memory none = tt
 
     pub question-no-parts : 0 < length needs → (why : Unread) → NoPartsRead rest why → NoQuestionRead bs why

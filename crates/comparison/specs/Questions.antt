@@ -57,9 +57,12 @@ pub data NoQuestion (bs : List ℕ) : Fault → Type 0 where
   no-need : (first rest : List ℕ) (pool : ℕ) → Begins bs first rest → RowOf 33 first (pool ∷ []) → NoQuestion bs (at 1 2 Missing)
   no-parts : (first rest : List ℕ) (pool need : ℕ) (needs : List ℕ) (fault : Fault) → Begins bs first rest → RowOf 33 first (pool ∷ need ∷ needs) → NoParts rest fault → NoQuestion bs fault
 
+abbrev pub AsksNothing : List ℕ → Type 0
+AsksNothing bs = (pool : ℕ) (needs parts : List ℕ) → Asks bs pool needs parts → ⊥
+
 -- what the reader of a question answers
 abbrev pub NoQuestionRead : List ℕ → Unread → Type 0
-NoQuestionRead bs (At fault) = NoQuestion bs fault
+NoQuestionRead bs (At fault) = NoQuestion bs fault × AsksNothing bs
 NoQuestionRead bs Memory = Unit {0}
 
 abbrev pub QuestionRead : List ℕ → Result Question Unread → Type 0

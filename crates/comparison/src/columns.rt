@@ -26,7 +26,6 @@ use sharing::rule::PLACES;
 use sharing::rule::SharingRule;
 use std::alloc::AllocError;
 use std::alloc::Global;
-use std::alloc::Refused;
 use std::fmt;
 
 /// Why there is no table.
@@ -72,14 +71,6 @@ pub impl From<AllocError> for Refusal as RefusalFromAlloc {
     ghost converts = { λ _ r. r ≡ Memory };
 
     fn from(_e: AllocError) -> Refusal {
-        Refusal::Memory
-    }
-}
-
-pub impl<T: Drop> From<Refused<T>> for Refusal as RefusalFromRefused {
-    ghost converts = { λ _ r. r ≡ Memory };
-
-    fn from(_e: Refused<T>) -> Refusal {
         Refusal::Memory
     }
 }

@@ -12,7 +12,6 @@ use fields::cut;
 use fields::line;
 use fields::number;
 use sharing::rule::PLACES;
-use std::alloc::AllocError;
 use std::alloc::Global;
 use std::alloc::Refused;
 use std::fmt;
@@ -100,14 +99,6 @@ pub struct Question {
     pub pool: u64,
     pub needs: Vec<u64>,
     pub parts: Vec<u64>,
-}
-
-pub impl From<AllocError> for Unread as UnreadFromAlloc {
-    ghost converts = { λ _ r. r ≡ Memory };
-
-    fn from(_e: AllocError) -> Unread {
-        Unread::Memory
-    }
 }
 
 pub impl<T: Drop> From<Refused<T>> for Unread as UnreadFromRefused {

@@ -1,6 +1,6 @@
 //! Proportion.
 ghost use mathlib.Core.Path.{_≡_};
-ghost use Prim.Native.Nat.{_*_, _^_, _<_};
+ghost use Prim.Native.Nat.{_+_, _-_, _^_, _<_, _≤_};
 ghost use Rattle.std.specs.shelf.Lists.{sum};
 ghost use Rattle.sharing.specs.Rules.{portion, proportion};
 use crate::refusal::ShareRefusal;
@@ -20,9 +20,8 @@ pub impl SharingRule for Proportion as ProportionRule {
         let given = pool.min(all);
         let mut before = 0;
         for (place, need) in needs.iter().enumerate() {
-            let with_own = before + *need;
-            shares[place] = portion_of(given, all, with_own) - portion_of(given, all, before);
-            before = with_own;
+            shares[place] = share_of(given, all, before, *need);
+            before += *need;
         }
         Ok(())
     }
@@ -36,9 +35,20 @@ fn sum_of(needs: &[u64]) -> u64
     needs.iter().sum()
 }
 
+// What a place gets that comes after the needs before it.
+fn share_of(given: u64, all: u64, before: u64, need: u64) -> u64
+    requires given { ⌜ given ≤ 64000000 ⌝ }
+    requires needs { ⌜ before + need ≤ 64000000 ⌝ }
+    ensures { λ r. ⌜ r ≡ portion given all (before + need) - portion given all before ⌝ }
+{
+    // A portion only grows with the needs that it is for, so the difference stops at 0 nowhere.
+    portion_of(given, all, before + need).saturating_sub(portion_of(given, all, before))
+}
+
 // The portion of `given` that falls to the first `first` kWh of all needs, rounded down.
 fn portion_of(given: u64, all: u64, first: u64) -> u64
-    requires { ⌜ given * first < 2 ^ 64 ⌝ }
+    requires given { ⌜ given ≤ 64000000 ⌝ }
+    requires first { ⌜ first ≤ 64000000 ⌝ }
     ensures { λ r. ⌜ r ≡ portion given all first ⌝ }
 {
     if all == 0 { 0 } else { given * first / all }

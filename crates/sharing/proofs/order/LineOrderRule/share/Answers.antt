@@ -1,4 +1,4 @@
-use mathlib.Core.Path.{refl, sym, ap₂, _∙_}
+use mathlib.Core.Path.{sym, ap₂, _∙_}
 use mathlib.Core.List.{_∷_}
 use Prim.Native.Nat.{_+_}
 use native.Mathlib.Omega.{arith}
@@ -8,9 +8,6 @@ use Rattle.sharing.specs.Rules.{line-order}
 use Rattle.sharing.proofs.Admission.{admitted}
 use Rattle.sharing.proofs.Writing.{begun-more, begun-all}
 use Rattle.sharing.proofs.order.LineOrderRule.share.Needs as need
-
-pub loop-place-holds : need.loop-place-holds
-loop-place-holds c = refl
 
 pub loop-place-again : need.loop-place-again
 loop-place-again c =

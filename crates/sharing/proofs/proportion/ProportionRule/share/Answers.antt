@@ -1,7 +1,6 @@
 use mathlib.Core.Path.{_≡_, sym, ap, ap₂, _∙_}
 use mathlib.Core.List.{List, _∷_}
-use Prim.Native.Nat.{ℕ, _+_, _-_, _*_, _^_, _≤_, _<_, min}
-use native.Mathlib.Nat.{le-trans, mul-le-mul}
+use Prim.Native.Nat.{ℕ, _+_, _≤_, _<_, min}
 use native.Mathlib.Omega.{arith}
 use lib.ListN.{drop, getD, length}
 use Rattle.std.specs.shelf.Lists.{sum}
@@ -9,7 +8,6 @@ use Rattle.std.proofs.shelf.Lists.{at-drop-more, at-drop-all}
 use Rattle.std.proofs.shelf.Sums.{sumBy-drop-more}
 use Rattle.sharing.specs.Rules.{portions}
 use Rattle.sharing.proofs.Admission.{admitted, sum-within}
-use Rattle.sharing.proofs.Fairness.{portion-grows}
 use Rattle.sharing.proofs.Writing.{begun-more, begun-all}
 use Rattle.sharing.proofs.proportion.ProportionRule.share.Needs as need
 
@@ -27,25 +25,14 @@ loop-place-holds c = (
 upto-within : (all before place : ℕ) (ns : List ℕ) → place < length ns → before + sum (drop place ns) ≡ all → before + getD ns place 0 ≤ all
 upto-within all before place ns within split = omega (arith, sumBy-drop-more (λ need. need) ns place 0 within)
 
-product-fits : (given first all : ℕ) → given ≤ all → first ≤ all → all ≤ 64000000 → given * first < 2 ^ 64
-product-fits given first all g f a =
-    let most : given * first ≤ 64000000 * 64000000 = mul-le-mul (le-trans g a) (le-trans f a) in
-    omega (arith, most)
+pub share-of-requires : need.share-of-requires
+share-of-requires c κs =
+    let upto = upto-within (c .sum-of-all .result) (c .loop-place .before) (c .loop-place .place) (c .args .needs .now) (c .loop-place-test .taken) (c .loop-place .inv .1) in
+    record { given = omega (arith, c .loop-place .inv .0, c .min-given .ensures); needs = omega (arith, c .loop-place .inv .0, upto) }
 
-pub add-with-own : need.add-with-own
-add-with-own c = omega (arith, c .loop-place .inv .0, upto-within _ _ _ (c .args .needs .now) (c .loop-place-test .taken) (c .loop-place .inv .1))
-
-pub portion-of-requires : need.portion-of-requires
-portion-of-requires c κs =
-    product-fits _ _ (c .sum-of-all .result) (omega arith) (upto-within _ _ _ (c .args .needs .now) (c .loop-place-test .taken) (c .loop-place .inv .1)) (c .loop-place .inv .0)
-
-pub portion-of-requires-in-loop-place : need.portion-of-requires-in-loop-place
-portion-of-requires-in-loop-place c κs =
-    product-fits _ _ (c .sum-of-all .result) (omega arith) (omega (arith, c .loop-place .inv .1)) (c .loop-place .inv .0)
-
-pub sub-shares : need.sub-shares
-sub-shares c =
-    omega (arith, portion-grows (c .min-given .result) (c .sum-of-all .result) (c .loop-place .before) (getD (c .args .needs .now) (c .loop-place .place) 0))
+pub add-before : need.add-before
+add-before c =
+    omega (arith, c .loop-place .inv .0, upto-within _ _ _ (c .args .needs .now) (c .loop-place-test .taken) (c .loop-place .inv .1))
 
 pub loop-place-again : need.loop-place-again
 loop-place-again c =
@@ -59,7 +46,7 @@ loop-place-again c =
       c .loop-place .inv .0,
       omega (arith, c .loop-place .inv .1, sumBy-drop-more (λ need. need) ns place 0 within),
       begun-more (c .loop-place .shares) place _ _ (c .loop-place .inv .2) _ _ (omega (arith, fit .matching))
-          (at-drop-more (portions given all before) ns place 0 within ∙ ap (λ x. x ∷ portions given all (before + getD ns place 0) (drop (place + 1) ns)) (ap₂ _-_ (sym (c .portion-of .ensures)) (sym (c .portion-of-in-loop-place .ensures)))),
+          (at-drop-more (portions given all before) ns place 0 within ∙ ap (λ x. x ∷ portions given all (before + getD ns place 0) (drop (place + 1) ns)) (sym (c .share-of .ensures))),
     )
 
 pub returns : need.returns
