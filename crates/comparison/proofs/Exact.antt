@@ -14,7 +14,7 @@ use Rattle.std.proofs.shelf.Elements.{all-append, all-from-getD, all-getD}
 use Rattle.std.proofs.shelf.Lists.{getD-at}
 use Rattle.std.proofs.shelf.Numerals.{Numerals, not-in-digits, numerals-by-value, tells-digits}
 use Rattle.fields.specs.Cuts.{Lacks}
-use Rattle.comparison.specs.Rows.{Short, NoNumber, Because, Stops, front-of, row}
+use Rattle.comparison.specs.Rows.{Short, FieldWrong, NoNumber, Starts, Stops, front-of, row}
 use Rattle.comparison.specs.Questions.{Asks, AsksNothing, Begins, NoParts, NoQuestion, parts-text, second-endless, second-unread, third-line, first-endless, first-unread, no-need, no-parts}
 use Rattle.comparison.specs.declared.question.Fault.{Fault}
 use Rattle.comparison.specs.declared.question.Wrong.{Wrong}
@@ -103,18 +103,18 @@ module _ (most before : ℕ) (rest after : List ℕ) (others : rest ≡ row afte
           (λ cut. none n (short .0) (cut-once 44 field (decimal n) (cut .0) (row (m ∷ ns)) lacks (decimal-lacks 44 n comma-no-digit (short .0)) (sym (cut .1) ∙ is) .0))
           starts
 
-  no-cause : (wrong : Wrong) → Because most before rest wrong → ⊥
-  no-cause Number why = field-is-number (why .1 .0) (why .1 .1 .0 .0) (why .1 .1 .0 .1) (why .1 .1 .1)
-  no-cause Surplus why = omega arith
-  no-cause LineFeed why = why
-  no-cause Missing why = why
-  no-cause Line why = why
+  no-cause : (wrong : Wrong) (field : List ℕ) → Starts field rest → FieldWrong most before field wrong → ⊥
+  no-cause Number field starts why = field-is-number field (starts .0) (starts .1) (why .1)
+  no-cause Surplus field starts why = omega arith
+  no-cause LineFeed field starts why = why
+  no-cause Missing field starts why = why
+  no-cause Line field starts why = why
 
 -- a row does not stop
 row-goes-on : (line most : ℕ) (bs ns : List ℕ) (fault : Fault) → Stops line most bs fault → bs ≡ row ns → All Short ns → 1 ≤ length ns → length ns ≤ most → ⊥
 row-goes-on line most bs ns fault stops is short some few =
     let split = row-split (stops .before) (stops .rest) ns (stops .short) short some (sym (stops .text) ∙ is) in
-    no-cause most (length (stops .before)) (stops .rest) (split .after) (split .others) (split .short) (split .some) (omega (arith, split .counts)) (fault .wrong) (stops .because)
+    no-cause most (length (stops .before)) (stops .rest) (split .after) (split .others) (split .short) (split .some) (omega (arith, split .counts)) (fault .wrong) (stops .field) (stops .starts) (stops .because)
 
 -- ---- the text
 

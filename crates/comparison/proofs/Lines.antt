@@ -9,11 +9,9 @@ use Rattle.std.specs.declared.result.Result.the-variants.{Ok, Err}
 use Rattle.std.specs.shelf.Lists.{All}
 use Rattle.std.proofs.shelf.Lists.{joined-more, length-push}
 use Rattle.std.proofs.shelf.Elements.{all-push}
-use Rattle.comparison.specs.Rows.{Short, Starts, Because, FieldWrong, FieldRead, RowOf, NoRow, row, front-of}
-use Rattle.comparison.specs.declared.question.Unread.{Unread}
-use Rattle.comparison.specs.declared.question.Unread.the-variants.{At, Memory}
-use Rattle.comparison.specs.declared.question.Wrong.{Wrong}
-use Rattle.comparison.specs.declared.question.Wrong.the-variants.{LineFeed, Number, Missing, Surplus, Line}
+use Rattle.comparison.specs.Rows.{Short, Starts, FieldRead, RowOf, NoRow, row, front-of}
+use Rattle.comparison.specs.declared.problem.Problem.{Problem}
+use Rattle.comparison.specs.declared.problem.Problem.the-variants.{At, Memory, OfParts, OfRule}
 
 pub front-push : (before : List ℕ) (n : ℕ) (after : List ℕ) → front-of (before ++ (n ∷ [])) ++ after ≡ front-of before ++ (decimal n ++ (44 ∷ after))
 front-push before n after =
@@ -60,14 +58,9 @@ module _ (line most : ℕ) (bs before rest field : List ℕ) (sofar : Sofar most
         few = omega (arith, length-push before n, read .0);
       })
 
-  because-of : (wrong : Wrong) → Starts field rest → FieldWrong most (length before) field wrong → Because most (length before) rest wrong
-  because-of Number starts why = (why .0, (field, (starts, why .1)))
-  because-of Surplus starts why = why
-  because-of LineFeed starts why = why
-  because-of Missing starts why = why
-  because-of Line starts why = why
-
-  pub field-fault : (e : Unread) → Starts field rest → FieldRead line most before field (Err e) exit → NoRow line most bs e
+  pub field-fault : (e : Problem) → Starts field rest → FieldRead line most before field (Err e) exit → NoRow line most bs e
+  field-fault (OfRule refusal) starts read = read
+  field-fault (OfParts refusal) starts read = read
   field-fault Memory starts read = tt
   field-fault (At fault) starts read = record {
     before = before;
@@ -76,5 +69,7 @@ module _ (line most : ℕ) (bs before rest field : List ℕ) (sofar : Sofar most
     short = sofar .short;
     at-line = read .0;
     at-field = read .1;
-    because = because-of (fault .wrong) starts (read .2);
+    field = field;
+    starts = starts;
+    because = read .2;
   }

@@ -1,6 +1,6 @@
-pub mod Rows
-pub mod Questions
 pub mod Columns
-pub mod Tables
-pub mod Faults
+pub mod Questions
 pub mod Reports
+pub mod Rows
+pub mod Tables
+pub mod Words

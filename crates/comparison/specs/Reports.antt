@@ -6,41 +6,48 @@ use Rattle.std.specs.Of.String.{string-bytes}
 use Rattle.std.specs.declared.result.Result.{Result}
 use Rattle.std.specs.declared.result.Result.the-variants.{Ok, Err}
 use Rattle.std.specs.declared.string.String.{String}
-use Rattle.comparison.specs.Columns.{Tabled, Untabled}
-use Rattle.comparison.specs.Faults.{refusal-told, unread-told}
+use Rattle.comparison.specs.Columns.{Tabled, Untabled, padded}
 use Rattle.comparison.specs.Questions.{Asks, NoQuestionRead}
 use Rattle.comparison.specs.Tables.{table-of}
 use Rattle.comparison.specs.declared.columns.Comparison.{Comparison}
-use Rattle.comparison.specs.declared.columns.Refusal.{Refusal}
-use Rattle.comparison.specs.declared.report.Problem.{Problem}
-use Rattle.comparison.specs.declared.report.Problem.the-variants.{Refused, Unasked}
+use Rattle.comparison.specs.declared.problem.Problem.{Problem}
+use Rattle.comparison.specs.declared.problem.Problem.the-variants.{At, Memory, OfParts, OfRule}
 
-abbrev pub problem-told : Problem → List ℕ
-problem-told (Unasked unread) = unread-told unread
-problem-told (Refused refusal) = refusal-told refusal
+-- the bytes are the table of the four columns for this pool, these needs and these parts
+pub record TableFor (pool : ℕ) (needs parts bytes : List ℕ) : Type 0 where
+  pub columns : Comparison
+  pub tabled : Tabled pool needs (padded parts) columns
+  pub printed : bytes ≡ table-of needs columns
 
--- the bytes are the table of the four columns for what the text asks
+-- what the printer of a question answers
+abbrev pub Printed : {A : Type 0} → ℕ → List ℕ → List ℕ → Result (String A) Problem → Type 0
+Printed pool needs parts (Ok table) = TableFor pool needs parts (string-bytes table)
+Printed pool needs parts (Err why) = Untabled pool needs (padded parts) why
+
+-- the bytes are the table of what the text asks
 pub record Answers (text bytes : List ℕ) : Type 0 where
   pub pool : ℕ
   pub needs : List ℕ
   pub parts : List ℕ
   pub asked : Asks text pool needs parts
-  pub columns : Comparison
-  pub tabled : Tabled pool needs parts columns
-  pub printed : bytes ≡ table-of needs columns
+  pub answered : TableFor pool needs parts bytes
 
 -- what the text asks is refused
-pub record Refuses (text : List ℕ) (why : Refusal) : Type 0 where
+pub record Refuses (text : List ℕ) (why : Problem) : Type 0 where
   pub pool : ℕ
   pub needs : List ℕ
   pub parts : List ℕ
   pub asked : Asks text pool needs parts
-  pub untabled : Untabled pool needs parts why
+  pub untabled : Untabled pool needs (padded parts) why
 
+-- why there is no table for the text
 abbrev pub Unreported : List ℕ → Problem → Type 0
-Unreported text (Unasked unread) = NoQuestionRead text unread
-Unreported text (Refused why) = Refuses text why
+Unreported text (At fault) = NoQuestionRead text (At fault)
+Unreported text (OfRule refusal) = Refuses text (OfRule refusal)
+Unreported text (OfParts refusal) = Refuses text (OfParts refusal)
+Unreported text Memory = Unit {0}
 
+-- what a report answers
 abbrev pub Reported : {A : Type 0} → List ℕ → Result (String A) Problem → Type 0
 Reported text (Ok table) = Answers text (string-bytes table)
 Reported text (Err problem) = Unreported text problem

@@ -4,81 +4,28 @@ ghost use Prim.Native.Nat.{_-_, _≤_};
 ghost use Rattle.std.specs.Of.Vec.{vec-items};
 ghost use Rattle.std.specs.Vec.{made};
 ghost use Rattle.std.specs.shelf.Lists.{sum};
-ghost use Rattle.std.specs.declared.option.Option.the-variants.{Some};
 ghost use Rattle.comparison.specs.Columns.{ColumnMade, Compared, PartsColumnMade, padded};
-ghost use Rattle.comparison.specs.Faults.{refusal-told};
-ghost use Rattle.comparison.specs.declared.columns.Refusal.the-variants.{Memory, OfParts, OfRule};
+use crate::problem::Problem;
+use crate::problem::ProblemFromAlloc;
+use crate::problem::ProblemFromParts;
+use crate::problem::ProblemFromShare;
 use sharing::order::LineOrder;
 use sharing::order::LineOrderRule;
 use sharing::parts::Parts;
 use sharing::parts::PartsRule;
 use sharing::proportion::Proportion;
 use sharing::proportion::ProportionRule;
-use sharing::refusal::PartsRefusal;
-use sharing::refusal::PartsRefusalDebug;
-use sharing::refusal::PartsRefusalDisplay;
-use sharing::refusal::PartsRefusalPartialEq;
-use sharing::refusal::ShareRefusal;
-use sharing::refusal::ShareRefusalDebug;
-use sharing::refusal::ShareRefusalDisplay;
-use sharing::refusal::ShareRefusalPartialEq;
 use sharing::rule::PLACES;
 use sharing::rule::SharingRule;
 use std::alloc::AllocError;
 use std::alloc::Global;
-use std::fmt;
-
-/// Why there is no table.
-#[derive(Clone, Copy, PartialEq, Eq, Debug)]
-pub enum Refusal {
-    /// A rule refused the pool and the needs.
-    OfRule(ShareRefusal),
-    /// The parts were refused.
-    OfParts(PartsRefusal),
-    /// There was no memory.
-    Memory,
-}
-
-pub impl fmt::Display for Refusal as RefusalDisplay {
-    ghost shown = { λ refusal. Some (refusal-told refusal) };
-
-    fn fmt<W: fmt::Write>(&self, f: &mut fmt::Formatter<W>) -> fmt::Result {
-        match self {
-            Refusal::OfRule(refusal) => write!(f, "refused by {refusal}"),
-            Refusal::OfParts(refusal) => write!(f, "refused by {refusal}"),
-            Refusal::Memory => write!(f, "there is no memory"),
-        }
-    }
-}
-
-pub impl From<ShareRefusal> for Refusal as RefusalFromShare {
-    ghost converts = { λ e r. r ≡ OfRule e };
-
-    fn from(e: ShareRefusal) -> Refusal {
-        Refusal::OfRule(e)
-    }
-}
-
-pub impl From<PartsRefusal> for Refusal as RefusalFromParts {
-    ghost converts = { λ e r. r ≡ OfParts e };
-
-    fn from(e: PartsRefusal) -> Refusal {
-        Refusal::OfParts(e)
-    }
-}
-
-pub impl From<AllocError> for Refusal as RefusalFromAlloc {
-    ghost converts = { λ _ r. r ≡ Memory };
-
-    fn from(_e: AllocError) -> Refusal {
-        Refusal::Memory
-    }
-}
 
 /// The shares by a rule, and what it leaves of the pool.
 #[derive(Drop)]
 pub struct Column {
+    /// The share of each place in kWh.
     pub shares: Vec<u64>,
+    /// What is left of the pool in kWh.
     pub left: u64,
 }
 
@@ -88,7 +35,7 @@ fn column_of<R: SharingRule>(
     rule: &R,
     pool: u64,
     needs: &[u64],
-) -> Result<Column, Refusal>
+) -> Result<Column, Problem>
     ensures { λ r. ⌜ ColumnMade (R·SharingRule .sharing (now (rule .entry))) pool (now (needs .entry)) r ⌝ }
 {
     let mut shares = vec![in heap; 0; needs.len()]?;
@@ -124,7 +71,7 @@ fn column_with_parts<R: SharingRule + Drop>(
     parts: &[u64],
     pool: u64,
     needs: &[u64],
-) -> Result<Column, Refusal>
+) -> Result<Column, Problem>
     ensures { λ r. ⌜ PartsColumnMade (R·SharingRule .sharing rule) (now (parts .entry)) pool (now (needs .entry)) r ⌝ }
 {
     let mut layer = Parts::over(rule);
@@ -135,25 +82,41 @@ fn column_with_parts<R: SharingRule + Drop>(
 /// The four columns of a comparison.
 #[derive(Drop)]
 pub struct Comparison {
+    /// By line order.
     pub line_order: Column,
+    /// By proportion.
     pub proportion: Column,
+    /// By parts over line order.
     pub parts_over_line_order: Column,
+    /// By parts over proportion.
     pub parts_over_proportion: Column,
 }
 
-/// Compares the rules on a pool and its needs, the places past the list of parts having none.
-pub fn compare(heap: Global, pool: u64, needs: &[u64], parts: &[u64]) -> Result<Comparison, Refusal>
+// The four columns with these parts.
+fn columns_with(
+    heap: Global,
+    pool: u64,
+    needs: &[u64],
+    parts: &[u64],
+) -> Result<Comparison, Problem>
     ensures { λ r. ⌜ Compared pool (now (needs .entry)) (now (parts .entry)) r ⌝ }
 {
     let line_order = column_of(heap, &LineOrder, pool, needs)?;
     let proportion = column_of(heap, &Proportion, pool, needs)?;
-    let parts = pad(heap, parts)?;
-    let parts_over_line_order = column_with_parts(heap, LineOrder, &parts, pool, needs)?;
-    let parts_over_proportion = column_with_parts(heap, Proportion, &parts, pool, needs)?;
+    let parts_over_line_order = column_with_parts(heap, LineOrder, parts, pool, needs)?;
+    let parts_over_proportion = column_with_parts(heap, Proportion, parts, pool, needs)?;
     Ok(Comparison {
         line_order,
         proportion,
         parts_over_line_order,
         parts_over_proportion,
     })
+}
+
+/// Compares the rules on a pool and its needs, the places past the list of parts having none.
+pub fn compare(heap: Global, pool: u64, needs: &[u64], parts: &[u64]) -> Result<Comparison, Problem>
+    ensures { λ r. ⌜ Compared pool (now (needs .entry)) (padded (now (parts .entry))) r ⌝ }
+{
+    let all = pad(heap, parts)?;
+    columns_with(heap, pool, needs, &all)
 }

@@ -30,20 +30,16 @@ pub fn number(part: &[u8], most: u64) -> Option<u64>
 pub fn cut(text: &[u8]) -> Option<(&[u8], &[u8])>
     ensures { λ r. ⌜ Cuts 44 (now (text .entry)) r ⌝ }
 {
-    match next(text, 0, COMMA) {
-        Some(i) => Some(around(text, i)),
-        None => None,
-    }
+    let i = next(text, 0, COMMA)?;
+    Some(around(text, i))
 }
 
 /// The first line without its line feed and the text after it, or none where no line ends.
 pub fn line(text: &[u8]) -> Option<(&[u8], &[u8])>
     ensures { λ r. ⌜ Cuts 10 (now (text .entry)) r ⌝ }
 {
-    match next_line_feed(text, 0) {
-        Some(i) => Some(around(text, i)),
-        None => None,
-    }
+    let i = next_line_feed(text, 0)?;
+    Some(around(text, i))
 }
 
 /// The index of the first line feed at or after `from`, or none where none follows.

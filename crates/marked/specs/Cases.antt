@@ -18,3 +18,5 @@ pub record Shared : Type 0 where
   pub by-line-order : line-order 5 needs ≡ 3 ∷ 2 ∷ 0 ∷ []
   pub by-proportion : proportion 5 needs ≡ 1 ∷ 2 ∷ 2 ∷ []
   pub by-parts-over-line-order : with-parts line-order parts 5 needs ≡ 3 ∷ 1 ∷ 1 ∷ []
+  pub by-parts-over-proportion : with-parts proportion parts 5 needs ≡ 2 ∷ 1 ∷ 2 ∷ []
+  pub without-a-need : proportion 5 (0 ∷ 0 ∷ []) ≡ 0 ∷ 0 ∷ []

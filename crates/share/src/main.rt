@@ -1,5 +1,5 @@
 // Prints, for the question on standard input, what each sharing rule gives every place.
-use comparison::report::ProblemDisplay;
+use comparison::problem::ProblemDisplay;
 use comparison::report::report;
 use std::error::AnyError;
 use std::io::Read;

@@ -11,8 +11,8 @@ use Rattle.std.specs.declared.result.Result.the-variants.{Ok, Err}
 use Rattle.std.specs.shelf.Lists.{sum}
 use Rattle.sharing.specs.declared.refusal.ShareRefusal.{ShareRefusal}
 use Rattle.sharing.specs.declared.refusal.ShareRefusal.the-variants.{Count, Size}
-use Rattle.sharing.specs.declared.refusal.PartsRefusal.{PartsRefusal}
-use Rattle.sharing.specs.declared.refusal.PartsRefusal.the-variants.{Parts}
+use Rattle.sharing.specs.declared.parts_refusal.PartsRefusal.{PartsRefusal}
+use Rattle.sharing.specs.declared.parts_refusal.PartsRefusal.the-variants.{Parts}
 
 -- a refusal's number, its meaning in words, and the test of a call's input that it stands for
 pub record Meaning (Test : Type 0) : Type 0 where
@@ -25,7 +25,7 @@ abbrev pub some-over : List ℕ → Bool
 some-over [] = false
 some-over (need ∷ needs) = ltb 2000000 need || some-over needs
 
--- of a pool, a list of needs and the number of places for shares
+-- the refusals of a rule's call, by its pool, its needs and the number of places for shares
 abbrev pub meaning : ShareRefusal → Meaning (ℕ → List ℕ → ℕ → Bool)
 meaning Count = record {
   number = 7;
@@ -34,11 +34,11 @@ meaning Count = record {
 }
 meaning Size = record {
   number = 8;
-  words = codes "the pool is over 1000000000 kWh or a need over 2000000";
+  words = codes "the pool is over 1000000000 kWh or a need over 2000000 kWh";
   stands = λ pool needs places. ltb 1000000000 pool || some-over needs;
 }
 
--- of a list of parts in ten-thousandths
+-- the refusal of the call that sets the parts, by their list in ten-thousandths
 abbrev pub parts-meaning : PartsRefusal → Meaning (List ℕ → Bool)
 parts-meaning Parts = record {
   number = 9;

@@ -9,7 +9,7 @@ abbrev pub line-order : ℕ → List ℕ → List ℕ
 line-order left [] = []
 line-order left (need ∷ needs) = min left need ∷ line-order (left - need) needs
 
--- how much of what is given falls to the first kWh of all needs, rounded down; a quotient by 0 is 0
+-- how much of what is given falls to the first of all needs, counted in kWh and rounded down; a quotient by 0 is 0
 abbrev pub portion : (given all first : ℕ) → ℕ
 portion given all first = (given * first) / all
 
@@ -19,7 +19,7 @@ portions given all before [] = []
 portions given all before (need ∷ needs) =
     (portion given all (before + need) - portion given all before) ∷ portions given all (before + need) needs
 
--- given is the smaller of the pool and all needs, so that nothing of it is lost by rounding
+-- what is given is the smaller of the pool and all needs; as differences of one row, the shares add up to it
 abbrev pub proportion : ℕ → List ℕ → List ℕ
 proportion pool needs = portions (min pool (sum needs)) (sum needs) 0 needs
 

@@ -2,6 +2,7 @@
 
 pub mod order;
 pub mod parts;
+pub mod parts_refusal;
 pub mod proportion;
 pub mod refusal;
 pub mod rule;

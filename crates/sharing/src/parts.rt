@@ -6,7 +6,7 @@ ghost use lib.ListN.{getD, replicate};
 ghost use Rattle.std.specs.shelf.Lists.{sum};
 ghost use Rattle.sharing.specs.Refusals.{parts-answer, written};
 ghost use Rattle.sharing.specs.Rules.{ahead, with-parts};
-use crate::refusal::PartsRefusal;
+use crate::parts_refusal::PartsRefusal;
 use crate::refusal::ShareRefusal;
 use crate::rule::PLACES;
 use crate::rule::SharingRule;

@@ -7,7 +7,7 @@ use crate::refusal::ShareRefusal;
 use crate::rule::SharingRule;
 use crate::rule::admit;
 
-/// Proportion: each place gets its part of the pool by need, and what rounding leaves over goes to the next place.
+/// Proportion: what is given is shared by need, and what rounding holds back from a place is carried on to those after it.
 #[derive(Clone, Copy)]
 pub struct Proportion;
 

@@ -90,11 +90,14 @@ fn parts_come_first() -> Result<(), Fail> {
 
 #[test]
 fn parts_nest() -> Result<(), Fail> {
-    let cases = [
+    let once = [
         Case(5, (3, 3, 3), (3, 1, 1)),
-        Case(100, (100, 100, 100), (50, 25, 25)),
-        Case(3, (3, 3, 3), (3, 0, 0)),
+        Case(100, (10, 60, 60), (10, 60, 30)),
     ];
-    check_all(&halved(halved(LineOrder)?)?, &cases)?;
-    check_all(&Parts::over(halved(LineOrder)?), &cases)
+    check_all(&Parts::over(halved(LineOrder)?), &once)?;
+    let twice = [
+        Case(5, (3, 3, 3), (3, 1, 1)),
+        Case(100, (10, 60, 60), (10, 55, 35)),
+    ];
+    check_all(&halved(halved(LineOrder)?)?, &twice)
 }

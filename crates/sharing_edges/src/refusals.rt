@@ -72,23 +72,26 @@ fn every_rule_refuses_alike() -> Result<(), Fail> {
     check_all(&Parts::over(Parts::over(Proportion)))
 }
 
-// How many parts, the first of them, and the refusal's number, 0 for none.
-const PARTS: [(usize, u64, u8); 7] = [
-    (32, 10_000, 0),
-    (32, 10_001, 9),
-    (32, u64::MAX, 9),
-    (31, 1, 9),
-    (33, 1, 9),
-    (0, 0, 9),
-    (32, 0, 0),
+// How many parts, the first two of them, and the refusal's number, 0 for none.
+const PARTS: [(usize, u64, u64, u8); 9] = [
+    (32, 10_000, 0, 0),
+    (32, 4_000, 6_000, 0),
+    (32, 4_000, 6_001, 9),
+    (32, 10_001, 0, 9),
+    (32, u64::MAX, u64::MAX, 9),
+    (32, 1, u64::MAX, 9),
+    (31, 1, 0, 9),
+    (33, 1, 0, 9),
+    (0, 0, 0, 9),
 ];
 
 #[test]
 fn parts_are_set_or_refused() -> Result<(), Fail> {
-    for (count, first, number) in PARTS.iter().copied() {
+    for (count, first, second, number) in PARTS.iter().copied() {
         let mut layer = Parts::over(LineOrder);
         let mut parts = [0; 33];
         parts[0] = first;
+        parts[1] = second;
         let answer = match layer.set(&parts[0..count.min(33)]) {
             Ok(()) => 0,
             Err(refusal) => refusal.number(),

@@ -1,18 +1,12 @@
 //! What a comparison reads and refuses.
-use comparison::columns::Refusal;
-use comparison::columns::RefusalDebug;
-use comparison::columns::RefusalPartialEq;
+use comparison::problem::Problem;
+use comparison::problem::ProblemDebug;
+use comparison::problem::ProblemDisplay;
+use comparison::problem::ProblemPartialEq;
 use comparison::question::Fault;
-use comparison::question::Unread;
-use comparison::question::UnreadDebug;
-use comparison::question::UnreadPartialEq;
 use comparison::question::Wrong;
-use comparison::report::Problem;
-use comparison::report::ProblemDebug;
-use comparison::report::ProblemDisplay;
-use comparison::report::ProblemPartialEq;
 use comparison::report::report;
-use sharing::refusal::PartsRefusal;
+use sharing::parts_refusal::PartsRefusal;
 use sharing::refusal::ShareRefusal;
 use std::alloc::Global;
 use std::test::*;
@@ -28,32 +22,28 @@ fn check_fault(
     heap: Global,
     text: &str,
     line: usize,
-    field: usize,
+    field: Option<usize>,
     wrong: Wrong,
 ) -> Result<(), Fail> {
-    check_problem(
-        heap,
-        text,
-        Problem::Unasked(Unread::At(Fault { line, field, wrong })),
-    )
+    check_problem(heap, text, Problem::At(Fault { line, field, wrong }))
 }
 
 #[test]
 fn faults_name_line_and_field(rt: LibcRuntime) -> Result<(), Fail> {
     let heap = rt.alloc();
-    check_fault(heap, "", 1, 0, Wrong::LineFeed)?;
-    check_fault(heap, "5,3", 1, 0, Wrong::LineFeed)?;
-    check_fault(heap, "\n", 1, 1, Wrong::Number)?;
-    check_fault(heap, "5\n", 1, 2, Wrong::Missing)?;
-    check_fault(heap, "5,,3\n", 1, 2, Wrong::Number)?;
-    check_fault(heap, "5,03\n", 1, 2, Wrong::Number)?;
-    check_fault(heap, "5,-3\n", 1, 2, Wrong::Number)?;
-    check_fault(heap, "5,3\r\n", 1, 2, Wrong::Number)?;
-    check_fault(heap, "10000000000,3\n", 1, 1, Wrong::Number)?;
-    check_fault(heap, "5,3\n\n", 2, 1, Wrong::Number)?;
-    check_fault(heap, "5,3\n1,2,\n", 2, 3, Wrong::Number)?;
-    check_fault(heap, "5,3\n1", 2, 0, Wrong::LineFeed)?;
-    check_fault(heap, "5,3\n1\n\n", 3, 0, Wrong::Line)
+    check_fault(heap, "", 1, None, Wrong::LineFeed)?;
+    check_fault(heap, "5,3", 1, None, Wrong::LineFeed)?;
+    check_fault(heap, "\n", 1, Some(1), Wrong::Number)?;
+    check_fault(heap, "5\n", 1, Some(2), Wrong::Missing)?;
+    check_fault(heap, "5,,3\n", 1, Some(2), Wrong::Number)?;
+    check_fault(heap, "5,03\n", 1, Some(2), Wrong::Number)?;
+    check_fault(heap, "5,-3\n", 1, Some(2), Wrong::Number)?;
+    check_fault(heap, "5,3\r\n", 1, Some(2), Wrong::Number)?;
+    check_fault(heap, "10000000000,3\n", 1, Some(1), Wrong::Number)?;
+    check_fault(heap, "5,3\n\n", 2, Some(1), Wrong::Number)?;
+    check_fault(heap, "5,3\n1,2,\n", 2, Some(3), Wrong::Number)?;
+    check_fault(heap, "5,3\n1", 2, None, Wrong::LineFeed)?;
+    check_fault(heap, "5,3\n1\n\n", 3, None, Wrong::Line)
 }
 
 #[test]
@@ -61,9 +51,9 @@ fn places_are_counted(rt: LibcRuntime) -> Result<(), Fail> {
     let heap = rt.alloc();
     let many = "1,1,1,1,1,1,1,1,1,1,1,1,1,1,1,1,1,1,1,1,1,1,1,1,1,1,1,1,1,1,1,1,1";
     let more = format!(heap, "{many},x\n")?;
-    check_fault(heap, more.as_str(), 1, 34, Wrong::Surplus)?;
+    check_fault(heap, more.as_str(), 1, Some(34), Wrong::Surplus)?;
     let parts = format!(heap, "5,3\n{many}\n")?;
-    check_fault(heap, parts.as_str(), 2, 33, Wrong::Surplus)?;
+    check_fault(heap, parts.as_str(), 2, Some(33), Wrong::Surplus)?;
     let most = format!(heap, "{many}\n")?;
     check(report(heap, most.as_str().as_bytes()).is_ok())
 }
@@ -71,11 +61,11 @@ fn places_are_counted(rt: LibcRuntime) -> Result<(), Fail> {
 #[test]
 fn refusals_carry_their_number(rt: LibcRuntime) -> Result<(), Fail> {
     let heap = rt.alloc();
-    let size = Problem::Refused(Refusal::OfRule(ShareRefusal::Size));
+    let size = Problem::OfRule(ShareRefusal::Size);
     check_problem(heap, "1000000001,3\n", size)?;
     check_problem(heap, "9999999999,3\n10001\n", size)?;
     check_problem(heap, "5,2000001\n", size)?;
-    let parts = Problem::Refused(Refusal::OfParts(PartsRefusal::Parts));
+    let parts = Problem::OfParts(PartsRefusal::Parts);
     check_problem(heap, "5,3\n5000,5001\n", parts)?;
     check_problem(heap, "5,3\n9999999999\n", parts)?;
     check(report(heap, b"1000000000,2000000\n10000\n").is_ok())
@@ -84,17 +74,23 @@ fn refusals_carry_their_number(rt: LibcRuntime) -> Result<(), Fail> {
 #[test]
 fn problems_are_told_in_words(rt: LibcRuntime) -> Result<(), Fail> {
     let heap = rt.alloc();
-    let size = Problem::Refused(Refusal::OfRule(ShareRefusal::Size));
+    let size = Problem::OfRule(ShareRefusal::Size);
     check(
         size.to_string(heap)?.as_str()
-            == "refused by 8: the pool is over 1000000000 kWh or a need over 2000000",
+            == "refused by 8: the pool is over 1000000000 kWh or a need over 2000000 kWh",
     )?;
-    let missing = Problem::Unasked(Unread::At(Fault {
+    let missing = Problem::At(Fault {
         line: 1,
-        field: 2,
+        field: Some(2),
         wrong: Wrong::Missing,
-    }));
+    });
     check(
         missing.to_string(heap)?.as_str() == "line 1, field 2: the line ends before its first need",
-    )
+    )?;
+    let endless = Problem::At(Fault {
+        line: 2,
+        field: None,
+        wrong: Wrong::LineFeed,
+    });
+    check(endless.to_string(heap)?.as_str() == "line 2: the line does not end in a line feed")
 }

@@ -1,5 +1,5 @@
 use mathlib.Core.Path.{ap, sym}
-use Rattle.comparison.specs.Faults.{wrong-words}
+use Rattle.comparison.specs.Words.{wrong-words}
 use Rattle.comparison.proofs.question.Wrong.words.Needs as need
 
 pub returns-in-LineFeed : need.returns-in-LineFeed

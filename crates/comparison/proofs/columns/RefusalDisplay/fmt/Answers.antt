@@ -1,4 +1,0 @@
-use Rattle.comparison.proofs.columns.RefusalDisplay.fmt.Needs as need
-
-pub returns-in-Memory : need.returns-in-Memory
-returns-in-Memory g c = rw (c .in-Memory .is) (c .write-in-Memory .ensures .shows)
