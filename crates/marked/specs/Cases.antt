@@ -3,6 +3,9 @@ use mathlib.Core.Path.{_≡_}
 use mathlib.Core.List.{List, [], _∷_}
 use Prim.Native.Nat.{ℕ}
 use lib.ListN.{replicate}
+use Rattle.std.specs.declared.option.Option.the-variants.{None, Some}
+use Rattle.calendar.specs.Dates.{day-of-date}
+use Rattle.calendar.specs.declared.date.Date.{Date}
 use Rattle.sharing.specs.Rules.{line-order, proportion, with-parts}
 
 -- three places that need 3 kWh each
@@ -20,3 +23,13 @@ pub record Shared : Type 0 where
   pub by-parts-over-line-order : with-parts line-order parts 5 needs ≡ 3 ∷ 1 ∷ 1 ∷ []
   pub by-parts-over-proportion : with-parts proportion parts 5 needs ≡ 2 ∷ 1 ∷ 2 ∷ []
   pub without-a-need : proportion 5 (0 ∷ 0 ∷ []) ≡ 0 ∷ 0 ∷ []
+
+abbrev date : (year month day : ℕ) → Date
+date year month day = record { year = year; month = month; day = day }
+
+-- days by their dates, and a 29 February that is a date beside one that is none
+pub record Dated : Type 0 where
+  pub march-of-2000 : day-of-date (date 2000 3 1) ≡ Some 60
+  pub march-of-2001 : day-of-date (date 2001 3 1) ≡ Some 425
+  pub leap-day-of-2024 : day-of-date (date 2024 2 29) ≡ Some 8825
+  pub no-leap-day-of-2023 : day-of-date (date 2023 2 29) ≡ None
