@@ -46,9 +46,10 @@ pub fn day_of(date: Date) -> Option<Day>
     Some(begins + after)
 }
 
-/// The date of a day, or none past the last day.
+/// The date of a day, or none past the last day; dates and days agree, there and back.
 pub fn date_of(day: Day) -> Option<Date>
-    ensures { λ r. ⌜ DateOf day r ⌝ }
+    ensures date { λ r. ⌜ DateOf day r ⌝ }
+    ensures agree { λ _. ⌜ Agree ⌝ }
 {
     let month = month_of(day)?;
     Some(date_in(month, day - first(month)))
@@ -66,8 +67,3 @@ fn date_in(month: Month, after: Day) -> Date
         day: (after + 1) as u8,
     }
 }
-
-/// Holds the proof that dates and days agree, there and back; there is nothing to run.
-pub fn dates_and_days_agree()
-    ensures { λ _. ⌜ Agree ⌝ }
-{}
