@@ -1,9 +1,7 @@
 //! What each rule gives every place, and what it leaves of the pool.
 ghost use mathlib.Core.Path.{_≡_};
-ghost use Prim.Native.Nat.{_-_, _≤_};
 ghost use Rattle.std.specs.Of.Vec.{vec-items};
 ghost use Rattle.std.specs.Vec.{made};
-ghost use Rattle.std.specs.shelf.Lists.{sum};
 ghost use Rattle.comparison.specs.Columns.{ColumnMade, Compared, PartsColumnMade, padded};
 use crate::problem::Problem;
 use crate::problem::ProblemFromAlloc;
@@ -17,6 +15,7 @@ use sharing::proportion::Proportion;
 use sharing::proportion::ProportionRule;
 use sharing::rule::PLACES;
 use sharing::rule::SharingRule;
+use sharing::rule::left_of;
 use std::alloc::AllocError;
 use std::alloc::Global;
 
@@ -42,15 +41,6 @@ fn column_of<R: SharingRule>(
     rule.share(pool, needs, &mut shares)?;
     let left = left_of(pool, &shares);
     Ok(Column { shares, left })
-}
-
-// What shares that come from the pool leave of it.
-fn left_of(pool: u64, shares: &[u64]) -> u64
-    requires { ⌜ sum (now shares) ≤ pool ⌝ }
-    ensures { λ r. ⌜ r ≡ pool - sum (now (shares .entry)) ⌝ }
-{
-    let given: u64 = shares.iter().sum();
-    pool - given
 }
 
 // The parts of all 32 places, of which those past the list are 0.

@@ -1,8 +1,9 @@
 //! The sharing rule as an interface, and the test that every rule's call begins with.
 ghost use mathlib.Core.List.{List};
 ghost use mathlib.Core.Path.{_≡_};
-ghost use Prim.Native.Nat.{ℕ};
+ghost use Prim.Native.Nat.{ℕ, _-_};
 ghost use lib.ListN.{length};
+ghost use Rattle.std.specs.shelf.Lists.{sum};
 ghost use Rattle.sharing.specs.Fair.{Fair};
 ghost use Rattle.sharing.specs.Refusals.{answer, some-over, written};
 use crate::refusal::ShareRefusal;
@@ -37,6 +38,17 @@ pub fn admit(pool: u64, needs: &[u64], places: usize) -> Result<(), ShareRefusal
         return Err(ShareRefusal::Size);
     }
     Ok(())
+}
+
+/// What shares leave of a pool, or 0 where they are more than it.
+pub fn left_of(pool: u64, shares: &[u64]) -> u64
+    ensures { λ r. ⌜ r ≡ pool - sum (now (shares .entry)) ⌝ }
+{
+    let mut left = pool;
+    for share in shares {
+        left = left.saturating_sub(*share);
+    }
+    left
 }
 
 // Whether a need is over its limit.

@@ -20,11 +20,6 @@ filled g c =
     let room = c .in-Continue-shares .ensures tt .made .1 in
     refilled-is (c .in-Continue-shares .shares) (c .share .last .shares) (ap length wrote ∙ fair .as-many ∙ sym room) ∙ wrote
 
-pub left-of-left-requires : need.left-of-left-requires
-left-of-left-requires g c κs =
-    let fair = g .R·SharingRule·met .fair (c .args .rule .now) (c .args .pool) (c .args .needs .now) in
-    omega (arith, ap sum (c .deref .ensures .value ∙ filled g c), fair .whole)
-
 pub returns : need.returns
 returns g c =
     let before = need.at·returns g c .After-deref in

@@ -1,0 +1,4 @@
+//! What a month comes to: from the members' nets to covered and billed kWh and a carried balance.
+
+pub mod net;
+pub mod zone;
