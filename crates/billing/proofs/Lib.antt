@@ -1,0 +1,2 @@
+mod Balance
+mod Pools
