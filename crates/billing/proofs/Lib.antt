@@ -1,2 +1,3 @@
 mod Balance
 mod Pools
+mod Postings

@@ -1,1 +1,3 @@
+pub mod Accounts
+pub mod Costs
 pub mod Zones
