@@ -3,4 +3,7 @@
 pub mod account;
 pub mod cost;
 pub mod net;
+pub mod supply;
+#[cfg(test)]
+mod tests;
 pub mod zone;

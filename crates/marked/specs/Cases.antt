@@ -2,8 +2,12 @@
 use mathlib.Core.Path.{_≡_}
 use mathlib.Core.List.{List, [], _∷_}
 use Prim.Native.Nat.{ℕ}
+use lib.IntN.{negsuc, pos, _+ℤ_}
 use lib.ListN.{replicate}
 use Rattle.std.specs.declared.option.Option.the-variants.{None, Some}
+use Rattle.std.specs.Numbers.{remEuclid}
+use Rattle.billing.specs.Accounts.{drams-of, owing}
+use Rattle.billing.specs.declared.account.Account.{Account}
 use Rattle.calendar.specs.Dates.{day-of-date}
 use Rattle.calendar.specs.declared.date.Date.{Date}
 use Rattle.sharing.specs.Rules.{line-order, proportion, with-parts}
@@ -33,3 +37,12 @@ pub record Dated : Type 0 where
   pub march-of-2001 : day-of-date (date 2001 3 1) ≡ Some 425
   pub leap-day-of-2024 : day-of-date (date 2024 2 29) ≡ Some 8825
   pub no-leap-day-of-2023 : day-of-date (date 2023 2 29) ≡ None
+
+-- an account that owes nothing and keeps 30 hundredths
+abbrev account : Account
+account = record { debt = pos 0; fraction = 30 }
+
+-- a credit of 1,000 hundredths leaves it with a debt of -10 drams and the same 30 hundredths
+pub record Credited : Type 0 where
+  pub ten-drams-less : account .debt +ℤ drams-of account (negsuc 999) ≡ negsuc 9
+  pub the-fraction-kept : remEuclid (owing account (negsuc 999)) (pos 100) ≡ pos 30
