@@ -10,7 +10,7 @@ use Rattle.std.specs.shelf.Lists.{sum}
 use Rattle.std.proofs.shelf.Tests.{cases-lt}
 use Rattle.sharing.specs.Fair.{Fair, less, plus}
 use Rattle.sharing.proofs.Fairness.{sum-less}
-use Rattle.billing.specs.Zones.{Balances, Posted, needs-of, pool-of}
+use Rattle.billing.specs.Zones.{Balances, Split, needs-of, pool-of}
 
 less-plus : (xs ys : List ℕ) → length ys ≡ length xs → ((k : ℕ) → getD ys k 0 ≤ getD xs k 0) → plus (less xs ys) ys ≡ xs
 less-plus [] [] same within = refl
@@ -19,7 +19,7 @@ less-plus (x ∷ xs) [] same within = refl
 less-plus (x ∷ xs) (y ∷ ys) same within =
     ap₂ (λ n l. n ∷ l) (omega (arith, within zero)) (less-plus xs ys (omega arith) (λ k. within (suc k)))
 
-pub balances : (share : ℕ → List ℕ → List ℕ) → ((pool : ℕ) (needs : List ℕ) → Fair pool needs (share pool needs)) → (carried : ℕ) (nets : List ℤ) (left : ℕ) (covered billed : List ℕ) → Posted share carried nets left covered billed → Balances carried nets left covered billed
+pub balances : (share : ℕ → List ℕ → List ℕ) → ((pool : ℕ) (needs : List ℕ) → Fair pool needs (share pool needs)) → (carried : ℕ) (nets : List ℤ) (left : ℕ) (covered billed : List ℕ) → Split share carried nets left covered billed → Balances carried nets left covered billed
 balances share fair carried nets left covered billed posted =
     let pool = pool-of carried nets in
     let needs = needs-of nets in

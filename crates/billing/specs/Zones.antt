@@ -44,7 +44,7 @@ zone-answer carried nets to-cover to-bill =
     cond (counted (length nets) to-cover to-bill) (answer (pool-of carried nets) (needs-of nets) to-cover) (Err Count)
 
 -- the shares of the needs are covered, what is left of them is billed, and what is left of the pool is carried on
-pub record Posted (share : ℕ → List ℕ → List ℕ) (carried : ℕ) (nets : List ℤ) (left : ℕ) (covered billed : List ℕ) : Type 0 where
+pub record Split (share : ℕ → List ℕ → List ℕ) (carried : ℕ) (nets : List ℤ) (left : ℕ) (covered billed : List ℕ) : Type 0 where
   pub covered-is : covered ≡ share (pool-of carried nets) (needs-of nets)
   pub billed-is : billed ≡ less (needs-of nets) covered
   pub left-is : left ≡ pool-of carried nets - sum covered
@@ -58,7 +58,7 @@ pub record Slices : Type 0 where
 abbrev pub Settled : (ℕ → List ℕ → List ℕ) → ℕ → List ℤ → Result ℕ ShareRefusal → (before after : Slices) → Type 0
 Settled share carried nets (Ok left) before after =
     (zone-answer carried nets (length (before .covered)) (length (before .billed)) ≡ Ok tt)
-    × Posted share carried nets left (after .covered) (after .billed)
+    × Split share carried nets left (after .covered) (after .billed)
 Settled share carried nets (Err refusal) before after =
     (zone-answer carried nets (length (before .covered)) (length (before .billed)) ≡ Err refusal)
     × (after .covered ≡ before .covered) × (after .billed ≡ before .billed)

@@ -139,6 +139,11 @@ fn postings_keep_every_hundredth() -> Result<(), Fail> {
         debt: i64::MAX,
         fraction: 1,
     };
+    let small = Account {
+        debt: 0,
+        fraction: 30,
+    };
+    check_eq(post(small, i64::MAX), None)?;
     check_eq(post(full, 99), None)?;
     check_eq(post(full, i64::MAX), None)
 }

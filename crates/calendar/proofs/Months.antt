@@ -1,15 +1,15 @@
 -- Months follow one another, and a day lies in one of them.
 use mathlib.Core.Path.{_≡_, refl, sym, ap, _∙_}
 use mathlib.Core.Logic.{⊎-elim}
-use mathlib.Core.Bool.{cond}
+use mathlib.Core.Bool.{cond, true}
 use Prim.Native.Nat.{ℕ, zero, suc, _+_, _-_, _%_, _≤_, _<_}
 use native.Mathlib.Nat.{add-zero, add-suc}
 use native.Mathlib.Numerals.{add-one}
 use native.Mathlib.Omega.{arith}
 use lib.ListN.{getD}
 use Rattle.std.proofs.shelf.Elements.{all-getD}
-use Rattle.std.proofs.shelf.Tests.{cases-order, cond-both}
-use Rattle.calendar.specs.Gregorian.{first-day, leap, length-of, lengths}
+use Rattle.std.proofs.shelf.Tests.{and-parts, cases-order, cond-both, leb-true, ltb-true}
+use Rattle.calendar.specs.Gregorian.{first-day, leap, length-of, lengths, lies-in}
 
 abbrev Usual : ℕ → Type 0
 Usual n = (28 ≤ n) × (n ≤ 31)
@@ -47,3 +47,9 @@ one-month m n day m-begun m-ahead n-begun n-ahead =
 
 pub last-first : first-day 1200 ≡ 36525
 last-first = refl
+
+-- so does a month that the test finds
+pub only-month : (month day : ℕ) → first-day month ≤ day → day < first-day (month + 1) → (m : ℕ) → lies-in day m ≡ true → m ≡ month
+only-month month day begun ahead m lies =
+    let found = and-parts _ _ (and-parts _ _ lies .1) in
+    one-month m month day (leb-true _ _ (found .0)) (ltb-true _ _ (found .1)) begun ahead

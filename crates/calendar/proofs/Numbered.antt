@@ -7,6 +7,7 @@ use native.Mathlib.Omega.{arith}
 use lib.Dec.{leb}
 use lib.ListN.{getD}
 use Rattle.std.proofs.shelf.Tests.{and-from, and-parts, cases-bool, cond-false, cond-true, le-leb, leb-true}
+use Rattle.std.specs.Options.{Cases}
 use Rattle.std.specs.declared.option.Option.{Option}
 use Rattle.std.specs.declared.option.Option.the-variants.{None, Some}
 use Rattle.calendar.specs.Dates.{Agree, DateOf, date-in, day-number, day-of-date, is-date, month-of-date}
@@ -130,10 +131,14 @@ date-found month day few begun ahead =
 
 pub agree : Agree
 agree = record {
-  day-date-day = λ day d of. of .0;
+  day-date-day = λ day r early of. there day r early of;
   date-day-date = λ d day r is. back d day is r;
 }
   where
+    there : (day : ℕ) (r : Option Date) → day ≤ 36524 → DateOf day r → Cases r ⊥ (λ d. day-of-date d ≡ Some day)
+    there day None early of = omega (arith, of .0)
+    there day (Some d) early of = of .0
+
     back : (d : Date) (day : ℕ) → day-of-date d ≡ Some day → (r : Option Date) → DateOf day r → r ≡ Some d
-    back d day is None none = absurd (none d is)
+    back d day is None none = absurd (none .1 d is)
     back d day is (Some e) of = ap Some (sym (of .1 d is))

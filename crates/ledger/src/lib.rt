@@ -1,4 +1,4 @@
-//! The plain data that several crates share.
+//! The plain data of the book, declared once for the crates that are to share it.
 
 /// A zone of the day, each with registers and prices of its own.
 #[derive(Clone, Copy, PartialEq, Eq, Debug)]

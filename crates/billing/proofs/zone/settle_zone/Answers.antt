@@ -8,7 +8,7 @@ use Rattle.std.proofs.shelf.Tests.{cond-true}
 use Rattle.sharing.specs.Fair.{less}
 use Rattle.sharing.specs.Refusals.{answer}
 use Rattle.sharing.specs.declared.refusal.ShareRefusal.the-variants.{Count}
-use Rattle.billing.specs.Zones.{Posted, counted, needs-of, pool-of}
+use Rattle.billing.specs.Zones.{Split, counted, needs-of, pool-of}
 use Rattle.billing.proofs.Balance.{balances}
 use Rattle.billing.proofs.Pools.{pool-is}
 use Rattle.billing.proofs.zone.settle_zone.Needs as need
@@ -25,7 +25,7 @@ returns g c =
     let ns = ap (λ n. take n (c .needs-in-needs .result)) all ∙ c .needs-in-needs .ensures in
     let shared = c .in-Continue-share .ensures tt in
     let ok = sym (shared .answers ∙ ap₂ (λ p l. answer p l to-cover) pool ns) in
-    let posted : Posted share carried nets (c .left-of .result) (c .share .last .shares) (c .bill .last .billed) = record {
+    let posted : Split share carried nets (c .left-of .result) (c .share .last .shares) (c .bill .last .billed) = record {
       covered-is = shared .writes ∙ ap₂ share pool ns;
       billed-is = c .bill .ensures ∙ ap (λ l. less l (c .share .last .shares)) ns;
       left-is = c .left-of .ensures ∙ ap (λ p. p - sum (c .share .last .shares)) pool;

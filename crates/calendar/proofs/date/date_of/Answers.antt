@@ -10,7 +10,7 @@ use Rattle.calendar.proofs.date.date_of.Needs as need
 
 pub returns-in-Break-month : need.returns-in-Break-month
 returns-in-Break-month c = record {
-  date = rw (c .from-residual .ensures) (past-the-last (c .args .day) (c .in-Break-month .ensures tt));
+  date = rw (c .from-residual .ensures) (c .in-Break-month .ensures tt, past-the-last (c .args .day) (c .in-Break-month .ensures tt));
   agree = agree;
 }
 
