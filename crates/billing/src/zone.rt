@@ -1,6 +1,5 @@
 //! A zone's month: its pool is shared among the needs, and what is left is carried on.
 ghost use mathlib.Core.Bool.{cond};
-ghost use mathlib.Core.List.{map};
 ghost use mathlib.Core.Path.{_≡_};
 ghost use Prim.Native.Nat.{_≤_};
 ghost use lib.Dec.{ltb};
