@@ -1,5 +1,5 @@
 -- Months follow one another, and a day lies in one of them.
-use Rattle.std.proofs.Common.{◌≡◌, ℕ, zero, suc, ◌+◌, ◌-◌, ◌%◌, ◌<◌, ◌≤◌, true, cond, get_or, sym, refl, ap, ◌∙◌, ⊎_elim, add-zero, add-suc, add-one, arith}
+use Rattle.std.proofs.Common.{◌≡◌, ℕ, zero, suc, ◌+◌, ◌-◌, ◌<◌, ◌≤◌, true, cond, get_or, refl, ap, ⊎_elim, add-zero, add-suc, add-one, arith}
 use Rattle.std.proofs.ByRecursion.{All-get_or}
 use Rattle.std.proofs.lemmas.Bool.{and_parts, cases_order, cond_both, leb-true, ltb-true}
 use Rattle.calendar.specs.Gregorian.{first_day, leap, length_of, lengths, lies_in}

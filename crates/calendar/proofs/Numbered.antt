@@ -1,5 +1,5 @@
 -- A date and its day determine each other.
-use Rattle.std.proofs.Common.{◌≡◌, ℕ, ◌+◌, ◌-◌, ◌*◌, ◌/◌, ◌%◌, ◌<◌, ◌≤◌, Bool, true, false, cond, ◌&&◌, leb, ◌⊎◌, get_or, Some, None, Option, sym, refl, ap, ◌∙◌, ap₂, ⊎_elim, arith, MatchOption}
+use Rattle.std.proofs.Common.{◌≡◌, ℕ, ◌+◌, ◌-◌, ◌/◌, ◌%◌, ◌<◌, ◌≤◌, true, ◌⊎◌, get_or, Some, None, Option, sym, ap, ◌∙◌, ap₂, ⊎_elim, arith, MatchOption}
 use Rattle.std.proofs.lemmas.Bool.{and_from, and_parts, cases_Bool, cond-false, cond-true, le-leb, leb-true}
 use Rattle.calendar.specs.Dates.{Agree, DateOf, date_in, day_number, day_of_date, is_date, month_of_date}
 use Rattle.calendar.specs.Gregorian.{first_day, length_of, lengths}

@@ -1,12 +1,9 @@
 -- What the answer of a rule's call says of the pool, the needs and the places.
-use Rattle.std.proofs.Common.{◌≡◌, ℕ, zero, suc, ◌+◌, ◌<◌, ◌≤◌, Bool, true, false, cond, not, ◌||◌, eqb, ltb, List, [], ◌∷◌, length, get_or, drop, Ok, Err, sum, Result, sym, refl, ap, ◌∙◌, mul-le-mul_right, arith, rules}
-use Rattle.std.proofs.lemmas.List.{at_drop_more, at_drop_all}
+use Rattle.std.proofs.Common.{◌≡◌, ℕ, zero, suc, ◌≤◌, false, List, [], ◌∷◌, length, get_or, Ok, sum, refl, mul-le-mul_right, arith}
 use Rattle.std.proofs.ByRecursion.{All-from_get_or, sum_by_le}
-use Rattle.std.proofs.lemmas.Bool.{ltb-true, ltb-false, lt-ltb, le-ltb, eqb-true, eq-eqb, or_parts, or_from, or_left, not-false, not_from_true, cond-true, cond-false, cases_Bool}
+use Rattle.std.proofs.lemmas.Bool.{ltb-false, le-ltb, or_parts, or_from}
 use Rattle.std.proofs.lemmas.Bool.Decides.{nat_tests}
-use Rattle.sharing.specs.declared.refusal.ShareRefusal.{ShareRefusal}
-use Rattle.sharing.specs.declared.refusal.ShareRefusal.TheVariants.{Count, Size}
-use Rattle.sharing.specs.Refusals.{answer, meaning, some_over}
+use Rattle.sharing.specs.Refusals.{answer, some_over}
 
 -- the call is not refused
 pub record Admitted (pool : ℕ) (rules : List ℕ) (places : ℕ) : Type 0 where

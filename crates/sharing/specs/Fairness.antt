@@ -1,9 +1,8 @@
 -- Each sharing rule keeps the law.
-use Rattle.std.specs.Prelude.{◌≡◌, ℕ, zero, suc, ◌+◌, ◌-◌, ◌*◌, ◌/◌, ◌<◌, ◌≤◌, min, List, [], ◌∷◌, length, sum, slice_index, refl}
-use Rattle.std.proofs.Common.{sym, ap, ◌∙◌, ⊎_elim, mul-add, mul-le-mul_right, mul-le-mul_left, mul-zero, zero-add, add-zero, le_trans, div-mul-le_self, le-div_iff_mul-le, arith}
+use Rattle.std.specs.Prelude.{◌≡◌, ℕ, zero, suc, ◌+◌, ◌-◌, ◌*◌, ◌/◌, ◌≤◌, min, List, [], ◌∷◌, length, sum, slice_index, refl}
+use Rattle.std.proofs.Common.{sym, ap, ◌∙◌, mul-add, mul-le-mul_right, mul-le-mul_left, mul-zero, zero-add, add-zero, le_trans, div-mul-le_self, le-div_iff_mul-le, arith}
 use Rattle.std.proofs.Math.Nat.{add-mul-div_left, mul-div_left, zero-div, div-zero, mul-div-le}
 use Rattle.std.proofs.lemmas.List.Sums.{sum_by-cons}
-use Rattle.std.proofs.lemmas.Bool.{cases_order}
 use Rattle.sharing.specs.Fair.{Fair, plus, less}
 use Rattle.sharing.specs.Rules.{line_order, portion, portions, proportion, ahead, reserved, with_parts}
 

@@ -1,4 +1,5 @@
 //! Sharing rules: how a pool of kWh is shared among the needs of up to 32 places.
+#![tactic(auto)]
 
 pub mod order;
 pub mod parts;

@@ -1,4 +1,5 @@
 //! Tariffs: the price of a kWh for each month, service and class.
+#![tactic(auto)]
 
 pub mod class;
 pub mod fixed;

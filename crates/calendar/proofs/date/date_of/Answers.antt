@@ -6,17 +6,17 @@ use Rattle.calendar.specs.Dates.{DateOf, date_in}
 use Rattle.calendar.specs.Gregorian.{year_of}
 use Rattle.calendar.proofs.date.date_of.Goals as goal
 
-pub returns-in-err-month : goal.returns-in-err-month
-returns-in-err-month c = record {
-  date = rw c.from-residual.ensures (c.in-err-month.ensures, past_the_last c.args.day c.in-err-month.ensures);
-  named = c.from-residual.ensures ∙ unnamed c.args.day c.in-err-month.ensures;
+pub returns-in_err-month : goal.returns-in_err-month
+returns-in_err-month c = record {
+  date = rw c.from_residual.ensures (c.in_err-month.ensures, past_the_last c.args.day c.in_err-month.ensures);
+  named = c.from_residual.ensures ∙ unnamed c.args.day c.in_err-month.ensures;
   agree = agree;
 }
 
-pub date-in-requires : goal.date-in-requires
-date-in-requires c =
-    let month = c.in-ok-month.month in
-    let within = c.in-ok-month.ensures in
+pub date_in-requires : goal.date_in-requires
+date_in-requires c =
+    let month = c.in_ok-month.month in
+    let within = c.in_ok-month.ensures in
     record {
       month = within.0;
       after = omega (arith, within.1, within.2, c.first.ensures, first_next month, (usual_length (year_of month) (month % 12) (omega arith)).1);
@@ -24,7 +24,7 @@ date-in-requires c =
 
 pub returns : goal.returns
 returns c =
-    let within = c.in-ok-month.ensures in
-    let made = c.date-in.ensures ∙ ap (λ first. date_in c.in-ok-month.month (c.args.day - first)) c.first.ensures in
-    let of = subst (λ d. DateOf c.args.day (Some d)) (sym made) (date_found c.in-ok-month.month c.args.day within.0 within.1 within.2) in
-    record { date = of; named = named c.date-in.result c.args.day of.0; agree = agree }
+    let within = c.in_ok-month.ensures in
+    let made = c.date_in.ensures ∙ ap (λ first. date_in c.in_ok-month.month (c.args.day - first)) c.first.ensures in
+    let of = subst (λ d. DateOf c.args.day (Some d)) (sym made) (date_found c.in_ok-month.month c.args.day within.0 within.1 within.2) in
+    record { date = of; named = named c.date_in.result c.args.day of.0; agree = agree }

@@ -1,4 +1,4 @@
-use Rattle.std.proofs.Common.{◌≡◌, ◌+◌, ◌<◌, ap, subst, arith}
+use Rattle.std.proofs.Common.{◌≡◌, ◌+◌, ◌<◌, subst, arith}
 use Rattle.calendar.specs.Gregorian.{first_day}
 use Rattle.calendar.proofs.Months.{only_month}
 use Rattle.calendar.proofs.days.month_of.Goals as goal

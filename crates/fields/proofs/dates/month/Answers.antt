@@ -4,5 +4,5 @@ use Rattle.fields.proofs.dates.month.Goals as goal
 
 pub returns : goal.returns
 returns c =
-    month_read c.args.part.now c.in-ok-year.year (search rules) c.in-ok-year.ensures c.in-ok-month.month c.in-ok-month.ensures
-    (search rules) c.month-in.result c.month-in.ensures
+    month_read c.args.part.now c.in_ok-year.year (search rules) c.in_ok-year.ensures c.in_ok-month.month c.in_ok-month.ensures
+    (search rules) c.month_in.result c.month_in.ensures

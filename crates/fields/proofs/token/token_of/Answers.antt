@@ -8,8 +8,8 @@ use Rattle.fields.proofs.token.token_of.Goals as goal
 pub returns-in-45 : goal.returns-in-45
 returns-in-45 c = text_from_reads c.args.part.now (45 ∷ []) (search rules) (search rules, tt)
 
-pub returns-in-default : goal.returns-in-default
-returns-in-default c =
+pub returns-in_default : goal.returns-in_default
+returns-in_default c =
     let part = c.args.part.now in
     let not-like-a-number : NumberLike part → ⊥ =
     λ like.

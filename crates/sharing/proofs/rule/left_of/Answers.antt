@@ -5,7 +5,7 @@ use Rattle.sharing.proofs.rule.left_of.Goals as goal
 
 pub loop-share-preserved : goal.loop-share-preserved
 loop-share-preserved c =
-    omega (arith, c.loop-share.invariant, c.saturating-sub-left.ensures, sum_by-drop_more (λ share. share) c.args.shares.now c.loop-share.share-index 0 c.loop-share-test.true)
+    omega (arith, c.loop-share.invariant, c.saturating_sub-left.ensures, sum_by-drop_more (λ share. share) c.args.shares.now c.loop-share.share-index 0 c.loop-share-test.true)
 
 pub returns : goal.returns
 returns c =

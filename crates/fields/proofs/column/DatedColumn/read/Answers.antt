@@ -4,10 +4,10 @@ use Rattle.fields.proofs.Forming.{date_form, day_spelled}
 use Rattle.fields.specs.Columns.{DateForm}
 use Rattle.fields.proofs.column.DatedColumn.read.Goals as goal
 
-pub returns-in-err-day : goal.returns-in-err-day
-returns-in-err-day c =
-    let wrong = c.in-err-day.ensures in
-    let p = err_from_is_err_and c.from-residual.result c.from-residual.ensures.1 in
+pub returns-in_err-day : goal.returns-in_err-day
+returns-in_err-day c =
+    let wrong = c.in_err-day.ensures in
+    let p = err_from_is_err_and c.from_residual.result c.from_residual.ensures.1 in
     rw (p.1, p.2) (
       wrong.0,
       (λ form. let is = day_spelled _ form in wrong.1 is.0 is.1.0 is.1.1),
@@ -16,5 +16,5 @@ returns-in-err-day c =
 
 pub returns : goal.returns
 returns c =
-    let told = c.in-ok-day.ensures in
+    let told = c.in_ok-day.ensures in
     (subst DateForm (sym told.1) (date_form _ told.0), search rules)

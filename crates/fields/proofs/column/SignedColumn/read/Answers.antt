@@ -4,10 +4,10 @@ use Rattle.fields.proofs.Forming.{signed_form, signed_spelled}
 use Rattle.fields.specs.Columns.{SignedForm}
 use Rattle.fields.proofs.column.SignedColumn.read.Goals as goal
 
-pub returns-in-err-value : goal.returns-in-err-value
-returns-in-err-value c =
-    let wrong = c.in-err-value.ensures in
-    let p = err_from_is_err_and c.from-residual.result c.from-residual.ensures.1 in
+pub returns-in_err-value : goal.returns-in_err-value
+returns-in_err-value c =
+    let wrong = c.in_err-value.ensures in
+    let p = err_from_is_err_and c.from_residual.result c.from_residual.ensures.1 in
     rw (p.1, p.2) (
       wrong.0,
       (λ form. let is = signed_spelled _ form in wrong.1 is.0 is.1.0 is.1.1),
@@ -16,5 +16,5 @@ returns-in-err-value c =
 
 pub returns : goal.returns
 returns c =
-    let told = c.in-ok-value.ensures in
+    let told = c.in_ok-value.ensures in
     (subst SignedForm (sym told.1) (signed_form _ told.0), search rules)

@@ -1,4 +1,4 @@
-use Rattle.std.proofs.Common.{◌≡◌, ℕ, ◌+◌, ◌-◌, ◌<◌, ◌≤◌, List, length, get_or, take, drop, sum, sym, refl, ap, ◌∙◌, subst, ap₂, arith, length-set}
+use Rattle.std.proofs.Common.{◌≡◌, ℕ, ◌-◌, length, get_or, sum, refl, ap, ◌∙◌, ap₂, arith, length-set}
 use Rattle.sharing.specs.Fair.{plus, less}
 use Rattle.sharing.specs.Refusals.{answer}
 use Rattle.sharing.specs.Rules.{reserved}
@@ -6,7 +6,6 @@ use Rattle.sharing.proofs.Admission.{admitted, admits}
 use Rattle.sharing.specs.Fairness.{reserved_in_pool, length_less, get_or_less}
 use Rattle.sharing.proofs.Layers.{own_fits, aside_more, added_more, aside_all, rest_all, added_all, at_start, rest_admitted}
 use Rattle.sharing.proofs.Writing.{begun_all}
-use Rattle.sharing.proofs.parts.PartsSharingRule.share.Given as given
 use Rattle.sharing.proofs.parts.PartsSharingRule.share.Goals as goal
 
 pub loop-place-init : goal.loop-place-init
@@ -17,21 +16,21 @@ loop-place-init g c = (
   refl,
 )
 
-pub overflow-sub-left : goal.overflow-sub-left
-overflow-sub-left g c =
-    own_fits c.args.pool c.args.self.now.parts c.args.needs.now c.loop-place.place _ c.loop-place-test.true c.ahead-at-own.ensures _ c.loop-place.invariant.1
+pub overflow_sub-left : goal.overflow_sub-left
+overflow_sub-left g c =
+    own_fits c.args.pool c.args.self.now.parts c.args.needs.now c.loop-place.place _ c.loop-place-test.true c.ahead_at-own.ensures _ c.loop-place.invariant.1
 
 pub loop-place-preserved : goal.loop-place-preserved
 loop-place-preserved g c =
     let ns = c.args.needs.now in
     let inv = c.loop-place.invariant in
-    let fit = admitted c.args.pool ns (length c.args.shares.now) c.in-ok-admit.ensures in
+    let fit = admitted c.args.pool ns (length c.args.shares.now) c.in_ok-admit.ensures in
     let within = c.loop-place-test.true in
-    let more = aside_more c.args.pool c.args.self.now.parts ns c.loop-place.place c.ahead-at-own.result within c.ahead-at-own.ensures c.loop-place.left c.loop-place.rest _ _ (omega (arith, inv.0, fit.few)) inv.1 inv.2 inv.3 in
+    let more = aside_more c.args.pool c.args.self.now.parts ns c.loop-place.place c.ahead_at-own.result within c.ahead_at-own.ensures c.loop-place.left c.loop-place.rest _ _ (omega (arith, inv.0, fit.few)) inv.1 inv.2 inv.3 in
     (length-set _ _ _ ∙ inv.0, more.0, more.1, more.2)
 
-pub returns-in-err-share : goal.returns-in-err-share
-returns-in-err-share g c =
+pub returns-in_err-share : goal.returns-in_err-share
+returns-in_err-share g c =
     let pool = c.args.pool in
     let ps = c.args.self.now.parts in
     let ns = c.args.needs.now in
@@ -41,8 +40,8 @@ returns-in-err-share g c =
     let left = aside_all pool ps ns c.loop-place.place done c.loop-place.left _ inv.2 in
     let rest = rest_all pool ps ns c.loop-place.place done c.loop-place.rest _ c.loop-place.auto.place-end inv.3 in
     let places = length c.args.shares.now in
-    let fit = rest_admitted pool ns first places (admitted pool ns places c.in-ok-admit.ensures) in
-    let never = c.in-err-share.ensures.answers ∙ ap₂ (λ p l. answer p l places) left rest ∙ admits _ _ places fit in
+    let fit = rest_admitted pool ns first places (admitted pool ns places c.in_ok-admit.ensures) in
+    let never = c.in_err-share.ensures.answers ∙ ap₂ (λ p l. answer p l places) left rest ∙ admits _ _ places fit in
     let clash : ◌≡◌ {A = ℕ} 0 1 = cc in
     absurd (omega arith)
 
@@ -55,18 +54,18 @@ loop-place-2-init g c =
     let inv = c.loop-place.invariant in
     let left = aside_all pool ps ns c.loop-place.place done c.loop-place.left _ inv.2 in
     let rest = rest_all pool ps ns c.loop-place.place done c.loop-place.rest _ c.loop-place.auto.place-end inv.3 in
-    (c.in-ok-share.ensures.writes ∙ ap₂ (g.R.SharingRule.sharing c.args.self.now.rule) left rest, refl, refl)
+    (c.in_ok-share.ensures.writes ∙ ap₂ (g.R.SharingRule.sharing c.args.self.now.rule) left rest, refl, refl)
 
-pub overflow-add-shares : goal.overflow-add-shares
-overflow-add-shares g c =
+pub overflow_add-shares : goal.overflow_add-shares
+overflow_add-shares g c =
     let ns = c.args.needs.now in
     let first = reserved c.args.pool c.args.self.now.parts ns in
     let place = c.loop-place-2.place in
     let inv = c.loop-place-2.invariant in
-    let fit = admitted c.args.pool ns (length c.args.shares.now) c.in-ok-admit.ensures in
+    let fit = admitted c.args.pool ns (length c.args.shares.now) c.in_ok-admit.ensures in
     let fair = g.met.R.SharingRule.fair c.args.self.now.rule (c.args.pool - sum first) (less ns first) in
     let share = at_start c.loop-place-2.shares c.share.new.shares place inv.1 ∙ ap (λ l. get_or l place 0) inv.0 in
-    omega (arith, share, fair.within place, get_or_less ns first place, fit.needs_within place, c.ahead-at.ensures)
+    omega (arith, share, fair.within place, get_or_less ns first place, fit.needs_within place, c.ahead_at.ensures)
 
 pub loop-place-2-preserved : goal.loop-place-2-preserved
 loop-place-2-preserved g c =
@@ -75,7 +74,7 @@ loop-place-2-preserved g c =
     let inv = c.loop-place-2.invariant in
     let fair = g.met.R.SharingRule.fair c.args.self.now.rule (c.args.pool - sum first) (less ns first) in
     let long : length c.share.new.shares ≡ length ns = ap length inv.0 ∙ fair.as_many ∙ length_less ns first in
-    let more = added_more c.args.pool c.args.self.now.parts ns c.loop-place-2.place c.ahead-at.result c.loop-place-2-test.true c.ahead-at.ensures c.loop-place-2.shares c.share.new.shares (plus first c.share.new.shares) (c.loop-place-2.auto.shares ∙ long) long inv.1 inv.2 in
+    let more = added_more c.args.pool c.args.self.now.parts ns c.loop-place-2.place c.ahead_at.result c.loop-place-2-test.true c.ahead_at.ensures c.loop-place-2.shares c.share.new.shares (plus first c.share.new.shares) (c.loop-place-2.auto.shares ∙ long) long inv.1 inv.2 in
     (inv.0, more.0, more.1)
 
 pub returns : goal.returns
@@ -90,6 +89,6 @@ returns g c =
     let none = added_all c.args.pool c.args.self.now.parts ns c.loop-place-2.place done below long in
     let same : length c.loop-place-2.shares ≡ length ns = c.loop-place-2.auto.shares ∙ long in
     record {
-      answers = c.in-ok-admit.ensures;
+      answers = c.in_ok-admit.ensures;
       writes = begun_all c.loop-place-2.shares c.loop-place-2.place _ _ inv.2 (omega arith) none ∙ ap (plus first) inv.0;
     }
