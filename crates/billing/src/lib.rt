@@ -1,4 +1,5 @@
 //! What a month comes to: from the members' nets to covered and billed kWh and a carried balance.
+#![tactic(auto)]
 
 pub mod account;
 pub mod cost;

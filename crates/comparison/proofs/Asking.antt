@@ -1,9 +1,9 @@
 -- From the lines of a text to the question that it asks, or to the place at which it asks none.
-use Rattle.std.proofs.Common.{◌≡◌, ℕ, ◌<◌, ◌≤◌, List, [], ◌∷◌, ◌++◌, length, get_or, Some, None, sym, refl, ap, ◌∙◌, subst, ap₂, arith}
+use Rattle.std.proofs.Common.{◌≡◌, ℕ, ◌<◌, ◌≤◌, List, [], ◌∷◌, ◌++◌, length, get_or, Some, None, sym, ◌∙◌, subst, ap₂, arith}
 use Rattle.std.specs.List.{remove}
 use Rattle.std.proofs.lemmas.List.{nil_from_length}
 use Rattle.fields.specs.Cuts.{Lacks}
-use Rattle.comparison.specs.Rows.{Short, RowOf, NoRow, row}
+use Rattle.comparison.specs.Rows.{RowOf, NoRow}
 use Rattle.comparison.specs.Questions.{Asks, AsksNothing, Begins, NoPartsRead, NoQuestion, NoQuestionRead, PartsOf, at, second_endless, second_unread, third_line, first_endless, first_unread, no_need, no_parts}
 use Rattle.comparison.proofs.Exact.{asks_nothing}
 use Rattle.comparison.specs.declared.question.Fault.{Fault}

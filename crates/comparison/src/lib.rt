@@ -1,4 +1,5 @@
 //! Compares the sharing rules on one month's pool: from a text to a table.
+#![tactic(auto)]
 
 pub mod columns;
 pub mod problem;

@@ -1,4 +1,5 @@
 //! The parts of a text: what its commas separate, where its lines end, its numbers, dates and months.
+#![tactic(auto)]
 
 pub mod column;
 pub mod dates;

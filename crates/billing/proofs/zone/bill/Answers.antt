@@ -1,4 +1,4 @@
-use Rattle.std.proofs.Common.{◌≡◌, ◌+◌, ◌-◌, ◌∷◌, length, get_or, drop, sym, ap, ◌∙◌, ap₂, arith}
+use Rattle.std.proofs.Common.{◌+◌, ◌∷◌, drop, sym, ap, ◌∙◌, ap₂, arith}
 use Rattle.std.proofs.lemmas.List.{drop_more, drop_all}
 use Rattle.sharing.specs.Fair.{less}
 use Rattle.sharing.proofs.Writing.{begun_more, begun_all}
@@ -11,7 +11,7 @@ loop-place-preserved c =
     let place = c.loop-place.place in
     let within = c.loop-place-test.true in
     begun_more c.loop-place.billed place _ _ c.loop-place.invariant _ _ (omega (arith, c.requires.billed))
-    (ap₂ less (drop_more ns place 0 within) (drop_more cs place 0 (omega (arith, c.requires.covered))) ∙ ap (λ x. x ∷ less (drop (place + 1) ns) (drop (place + 1) cs)) (sym c.saturating-sub.ensures))
+    (ap₂ less (drop_more ns place 0 within) (drop_more cs place 0 (omega (arith, c.requires.covered))) ∙ ap (λ x. x ∷ less (drop (place + 1) ns) (drop (place + 1) cs)) (sym c.saturating_sub.ensures))
 
 pub returns : goal.returns
 returns c =

@@ -1,5 +1,5 @@
-use Rattle.std.proofs.Common.{◌≡◌, ◌+◌, ◌≤◌, map, drop, sum}
-use Rattle.billing.specs.Zones.{pool_of, surplus}
+use Rattle.std.proofs.Common.{◌≡◌, ◌≤◌, drop}
+use Rattle.billing.specs.Zones.{pool_of}
 use Rattle.billing.proofs.zone.pool_in.Given as goal
 
 abbrev pub invariant-loop-net : goal.invariant-loop-net

@@ -8,8 +8,8 @@ use Rattle.std.proofs.lemmas.List.{take_all}
 pub loop-cell-init : goal.loop-cell-init
 loop-cell-init c = put_nothing c.args.out.now c.args.at
 
-pub put-next-end-requires : goal.put-next-end-requires
-put-next-end-requires c =
+pub put_next-end-requires : goal.put_next-end-requires
+put_next-end-requires c =
     let cells = c.args.cells.now in
     let i = c.loop-cell.cell-index in
     omega (arith, after_longer cells i c.loop-cell-test.true, after_front (i + 1) cells)
@@ -17,7 +17,7 @@ put-next-end-requires c =
 pub loop-cell-preserved : goal.loop-cell-preserved
 loop-cell-preserved c =
     let more = after_more c.args.cells.now c.loop-cell.cell-index c.loop-cell-test.true in
-    put_as (sym more) (put_more c.loop-cell.invariant c.put-next-end.ensures (omega arith))
+    put_as (sym more) (put_more c.loop-cell.invariant c.put_next-end.ensures (omega arith))
 
 pub returns : goal.returns
 returns c =

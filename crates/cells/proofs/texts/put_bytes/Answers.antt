@@ -11,6 +11,6 @@ returns c =
     record {
       stop = refl;
       held =
-          put_mid-paste at (at + length bytes - at) old c.copy-from-slice.new.self bytes (length bytes) c.copy-from-slice.ensures.after (omega arith) refl
+          put_mid-paste at (at + length bytes - at) old c.copy_from_slice.new.self bytes (length bytes) c.copy_from_slice.ensures.after (omega arith) refl
           ∙ paste_all old at bytes (length bytes) refl;
     }

@@ -7,5 +7,5 @@ use Rattle.std.proofs.lemmas.Int.{to_z-of_z}
 pub returns : goal.returns
 returns c =
     let z = c.args.z in
-    let text = signed_below z _ _ (to_z-of_z w64 z c.ranges.z) c.if-z-ge0.false c.unsigned-abs-2.ensures.value in
-    put_as (sym text) (put_more c.put-byte-digits.ensures c.put-number-2.ensures (omega arith))
+    let text = signed_below z _ _ (to_z-of_z w64 z c.ranges.z) c.if-z-ge0.false c.unsigned_abs-2.ensures.value in
+    put_as (sym text) (put_more c.put_byte-digits.ensures c.put_number-2.ensures (omega arith))

@@ -3,4 +3,4 @@ use Rattle.cells.proofs.Overwriting.{put_more}
 use Rattle.cells.proofs.texts.put_two.Goals as goal
 
 pub returns : goal.returns
-returns c = put_more c.put-digit-last.ensures c.put-digit.ensures (omega arith)
+returns c = put_more c.put_digit-last.ensures c.put_digit.ensures (omega arith)

@@ -3,4 +3,4 @@ use Rattle.cells.proofs.Overwriting.{put_more}
 use Rattle.cells.proofs.texts.put_year.Goals as goal
 
 pub returns : goal.returns
-returns c = put_more c.put-two-last.ensures c.put-two.ensures (omega arith)
+returns c = put_more c.put_two-last.ensures c.put_two.ensures (omega arith)

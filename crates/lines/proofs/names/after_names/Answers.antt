@@ -4,5 +4,5 @@ use Rattle.std.proofs.lemmas.Bool.Decides.{Decides-eqb}
 
 pub returns : goal.returns
 returns c =
-    let after = strip_prefix_is Decides-eqb c.args.text.now c.names.result.now c.strip-prefix.result c.strip-prefix.ensures.cases in
+    let after = strip_prefix_is Decides-eqb c.args.text.now c.names.result.now c.strip_prefix.result c.strip_prefix.ensures.cases in
     simp c.names.ensures at after
