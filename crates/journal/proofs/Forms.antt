@@ -1,5 +1,5 @@
 -- What the reader answers of a line's text.
-use Rattle.std.proofs.Common.{◌≡◌, ℕ, zero, suc, ◌≤◌, true, List, [], ◌∷◌, length, is_ok, Ok, Err, decimal, Decides, Result, sym, refl, ap, ◌∙◌, subst, inl, inr, ⊎_elim, arith}
+use Rattle.std.proofs.Common.{◌≡◌, ℕ, zero, suc, ◌≤◌, List, [], ◌∷◌, length, is_ok, Ok, Err, decimal, Decides, Result, sym, refl, ap, ◌∙◌, subst, inl, inr, ⊎_elim, arith}
 use Rattle.fields.proofs.Forming.{date_form, number_form, signed_form}
 use Rattle.fields.proofs.Lacking.{decimal_lacks, lacks_by_test, signed_lacks}
 use Rattle.fields.proofs.Parting.{one_parting}

@@ -1,4 +1,5 @@
 //! The journal as text: its lines, read and written.
+#![tactic(auto)]
 
 pub mod kind;
 pub mod read;

@@ -1,4 +1,5 @@
 //! The lines of the output: its names, bills, year ends and faults, written into a slice.
+#![tactic(auto)]
 
 pub mod fault;
 pub mod lines;

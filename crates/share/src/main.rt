@@ -1,4 +1,6 @@
 // Prints, for the question on standard input, what each sharing rule gives every place.
+#![tactic(auto)]
+
 use anyhow::anyhow;
 use comparison::report::report;
 use std::io::Read;

@@ -10,5 +10,5 @@ pub returns-in-Change : goal.returns-in-Change
 returns-in-Change c =
     let at = c.in-Change in
     let is : c.args.entry ≡ Change at.place at.zone at.flow at.day at.value at.start = at.is in
-    let P : Entry → Type 0 = λ entry. Written c.args.out.now 0 (line_text (Enter entry)) c.put-change.new.out c.put-change.result in
-    subst P (sym is) c.put-change.ensures
+    let P : Entry → Type 0 = λ entry. Written c.args.out.now 0 (line_text (Enter entry)) c.put_change.new.out c.put_change.result in
+    subst P (sym is) c.put_change.ensures

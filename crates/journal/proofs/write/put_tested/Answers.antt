@@ -11,6 +11,6 @@ returns c =
     let room : 64 ≤ length c.args.out.now = search rules in
     let short = short_line c.args.line fine in
     let done =
-    written_whole Room (line_text c.args.line) c.args.out.now c.put-line.new.out c.put-line.result c.ok-or.result
-    (omega arith) c.put-line.ensures c.ok-or.ensures.value in
+    written_whole Room (line_text c.args.line) c.args.out.now c.put_line.new.out c.put_line.result c.ok_or.result
+    (omega arith) c.put_line.ensures c.ok_or.ensures.value in
     rw done.0 (fine, room, refl, done.1)

@@ -6,7 +6,7 @@ pub returns : goal.returns
 returns c =
     record {
       written = search rules;
-      within-128 =
+      within_128 =
           short_bill c.args.month c.args.place c.args.bill
           (record {
             place_fits = search rules;
