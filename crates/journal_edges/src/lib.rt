@@ -1,4 +1,5 @@
 //! The edges of a journal's lines and of the output's, as tests.
+#![tactic(auto)]
 
 #[cfg(test)]
 mod lines;

@@ -132,7 +132,7 @@ fn year_ends_are_written(rt: HostRuntime) -> Result<(), Fail> {
         let mut out = [BLANK; 130];
         let end = write_year(month, place, year, &mut out, 2)?;
         assert!(rt; 2 <= end && end <= 130);
-        assert!(rt; &out[0..2] == b"##");
+        assert!(rt; &out[0..2] == b"##".as_slice());
         assert!(rt; &out[2..end] == text);
         for byte in &out[end..130] {
             assert_eq!(rt; *byte, BLANK);
@@ -197,13 +197,15 @@ fn faults_are_written(rt: HostRuntime) -> Result<(), Fail> {
 #[test]
 fn names_are_fixed(rt: HostRuntime) -> Result<(), Fail> {
     let rest = after_names(b"kind,member,zone,flow,value,second,date\nISSUE").ok_or("no names")?;
-    assert!(rt; rest == b"ISSUE");
+    assert!(rt; rest == b"ISSUE".as_slice());
     assert!(rt; after_names(b"kind,member,zone,flow,value,second,date").is_none());
     assert!(rt; after_names(b"kind,member,zone,flow,value,second,date\r\n").is_none());
     assert!(rt; after_names(b"").is_none());
     let mut out = [BLANK; 53];
     assert_eq!(rt; write_names(&mut out, 1), Ok(53));
-    assert!(rt; &out[0..53] == b"#line,month,place,dayb,nightb,dayc,nightc,drams,debt\n");
+    assert!(rt;
+        &out[0..53] == b"#line,month,place,dayb,nightb,dayc,nightc,drams,debt\n".as_slice()
+    );
     let mut short = [BLANK; 53];
     assert_eq!(rt; write_names(&mut short, 2), Err(OutputRefusal::Room));
     assert!(rt; short == [BLANK; 53]);

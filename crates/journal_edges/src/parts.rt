@@ -29,8 +29,8 @@ fn line_feeds_from_a_start(rt: HostRuntime) {
 #[test]
 fn a_text_is_cut_at_its_first_comma(rt: HostRuntime) -> Result<(), Fail> {
     let (field, rest) = cut(b",a,b").ok_or("no comma")?;
-    assert!(rt; field == b"");
-    assert!(rt; rest == b"a,b");
+    assert!(rt; field == b"".as_slice());
+    assert!(rt; rest == b"a,b".as_slice());
     assert!(rt; cut(b"a;b").is_none());
     Ok(())
 }

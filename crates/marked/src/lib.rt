@@ -1,4 +1,6 @@
 //! The worked cases of the project, proved together.
+#![tactic(auto)]
+
 ghost use Rattle.marked.specs.Cases.{Credited, Dated, ReadOrRefused, Shared};
 
 /// Holds the proof of every worked case; there is nothing to run.

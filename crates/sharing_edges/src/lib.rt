@@ -1,4 +1,5 @@
 //! The edges of the sharing rules and of the comparison, as tests.
+#![tactic(auto)]
 
 #[cfg(test)]
 mod figures;
