@@ -1,5 +1,5 @@
 #!/usr/bin/env python3
-"""Compares target/bin/share with the sharing rules written once more, on random questions.
+"""Compares crates/share/out/share with the sharing rules written once more, on random questions.
 
 Usage: tools/compare_shares.py [HOW_MANY [SEED]]
 """
@@ -8,7 +8,7 @@ import subprocess
 import sys
 from pathlib import Path
 
-SHARE = Path(__file__).resolve().parent.parent / "target" / "bin" / "share"
+SHARE = Path(__file__).resolve().parent.parent / "crates" / "share" / "out" / "share"
 NAMES = "place,need,line_order,proportion,parts_over_line_order,parts_over_proportion"
 
 

@@ -63,7 +63,7 @@ pub fn settle_zone<R: SharingRule>(
     covered: &mut [u64],
     billed: &mut [u64],
 ) -> Result<u64, ShareRefusal>
-    ensures settled { Settled (R.SharingRule.sharing rule.now) carried nets.now result (record { covered = covered.entry.now; billed = billed.old }) (record { covered = covered.exit.now; billed = billed.new }) }
+    ensures settled { Settled (R.SharingRule.sharing rule.now) carried nets.now result (record { covered = covered.old; billed = billed.old }) (record { covered = covered.new; billed = billed.new }) }
     ensures balances { IfOk result (λ left. Balances carried nets.now left covered.new billed.new) }
 {
     let members = nets.len();

@@ -1,7 +1,7 @@
 -- A text has one reading: where it stops at a fault, it asks no question.
 use Rattle.std.proofs.Common.{◌≡◌, ℕ, ◌+◌, ◌≤◌, ◌⊎◌, List, [], ◌∷◌, ◌++◌, length, decimal, sym, ap, ◌∙◌, ⊎_elim, append_assoc, arith, length-append}
 use Rattle.std.specs.Int.{IsInRange}
-use Rattle.std.specs.List.{AllByRecursion as All}
+use Rattle.std.specs.List.{AllByRecursion}
 use Rattle.fields.proofs.Lacking.{cut_once, decimal_lacks, lacks_append, lacks_one, no_mark}
 use Rattle.fields.specs.Cuts.{Lacks}
 use Rattle.comparison.specs.Rows.{Short, FieldWrong, NoNumber, Starts, Stops, front_of, row}
@@ -19,7 +19,7 @@ comma_no_digit digit = omega arith
 feed_no_digit : IsInRange 48 57 10 → ⊥
 feed_no_digit digit = omega arith
 
-row_lacks : (ns : List ℕ) → All Short ns → Lacks 10 (row ns)
+row_lacks : (ns : List ℕ) → AllByRecursion Short ns → Lacks 10 (row ns)
 row_lacks [] short = λ k h e. omega arith
 row_lacks (n ∷ []) short = short_lacks 10 n feed_no_digit short.0
 row_lacks (n ∷ m ∷ ns) short =
@@ -31,10 +31,10 @@ pub record Splits (before rest ns : List ℕ) : Type 0 where
   pub after : List ℕ
   pub counts : length ns ≡ length before + length after
   pub others : rest ≡ row after
-  pub short : All Short after
+  pub short : AllByRecursion Short after
   pub some : 1 ≤ length after
 
-row_split : (before rest ns : List ℕ) → All Short before → All Short ns → 1 ≤ length ns → front_of before ++ rest ≡ row ns → Splits before rest ns
+row_split : (before rest ns : List ℕ) → AllByRecursion Short before → AllByRecursion Short ns → 1 ≤ length ns → front_of before ++ rest ≡ row ns → Splits before rest ns
 row_split [] rest ns short-before short some e = record { after = ns; counts = omega arith; others = e; short = short; some = some }
 row_split (b ∷ before) rest [] short-before short some e = absurd (omega arith)
 row_split (b ∷ before) rest (n ∷ []) short-before short some e =
@@ -46,11 +46,11 @@ row_split (b ∷ before) rest (n ∷ m ∷ ns) short-before short some e =
     record { after = below.after; counts = omega (arith, below.counts); others = below.others; short = below.short; some = below.some }
 
 -- the faults of a field or of their number are no faults of a row
-module _ (most before : ℕ) (rest after : List ℕ) (others : rest ≡ row after) (short : All Short after) (some : 1 ≤ length after) (few : before + length after ≤ most) where
+module _ (most before : ℕ) (rest after : List ℕ) (others : rest ≡ row after) (short : AllByRecursion Short after) (some : 1 ≤ length after) (few : before + length after ≤ most) where
   field_is_number : (field : List ℕ) → Lacks 44 field → (rest ≡ field) ⊎ ((more : List ℕ) × (rest ≡ field ++ (44 ∷ more))) → NoNumber field → ⊥
   field_is_number field lacks starts none = found after others short some
     where
-      found : (after : List ℕ) → rest ≡ row after → All Short after → 1 ≤ length after → ⊥
+      found : (after : List ℕ) → rest ≡ row after → AllByRecursion Short after → 1 ≤ length after → ⊥
       found [] is short some = omega arith
       found (n ∷ []) is short some =
           ⊎_elim (λ whole. none n short.0 (sym whole ∙ is))
@@ -69,14 +69,14 @@ module _ (most before : ℕ) (rest after : List ℕ) (others : rest ≡ row afte
   no_cause Line field starts why = why
 
 -- a row does not stop
-row_goes_on : (line most : ℕ) (bs ns : List ℕ) (fault : Fault) → Stops line most bs fault → bs ≡ row ns → All Short ns → 1 ≤ length ns → length ns ≤ most → ⊥
+row_goes_on : (line most : ℕ) (bs ns : List ℕ) (fault : Fault) → Stops line most bs fault → bs ≡ row ns → AllByRecursion Short ns → 1 ≤ length ns → length ns ≤ most → ⊥
 row_goes_on line most bs ns fault stops is short some few =
     let split = row_split stops.before stops.rest ns stops.short short some (sym stops.text ∙ is) in
     no_cause most (length stops.before) stops.rest split.after split.others split.short split.some (omega (arith, split.counts)) fault.wrong stops.field stops.starts stops.because
 
 -- ---- the text
 
-begins_once : (bs first rest ns more : List ℕ) → All Short ns → Begins bs first rest → bs ≡ row ns ++ (10 ∷ more) → (first ≡ row ns) × (rest ≡ more)
+begins_once : (bs first rest ns more : List ℕ) → AllByRecursion Short ns → Begins bs first rest → bs ≡ row ns ++ (10 ∷ more) → (first ≡ row ns) × (rest ≡ more)
 begins_once bs first rest ns more short begins is =
     cut_once 10 first (row ns) rest more begins.1 (row_lacks ns short) (sym begins.0 ∙ is)
 
@@ -84,7 +84,7 @@ not_empty : (bs first rest : List ℕ) → Begins bs first rest → bs ≡ [] �
 not_empty bs first rest begins is =
     omega (arith, ap length begins.0, length-append first (10 ∷ rest), ap length is)
 
-parts_asked : (bs parts : List ℕ) (fault : Fault) → NoParts bs fault → bs ≡ parts_text parts → All Short parts → length parts ≤ 32 → ⊥
+parts_asked : (bs parts : List ℕ) (fault : Fault) → NoParts bs fault → bs ≡ parts_text parts → AllByRecursion Short parts → length parts ≤ 32 → ⊥
 parts_asked bs [] _ (second_endless some none) is short few = omega (arith, ap length is)
 parts_asked bs [] _ (second_unread second rest fault begins stops) is short few = not_empty bs second rest begins is
 parts_asked bs [] _ (third_line second rest ps begins of more) is short few = not_empty bs second rest begins is
@@ -94,7 +94,7 @@ parts_asked bs (p ∷ ps) _ (second_unread second rest fault begins stops) is sh
 parts_asked bs (p ∷ ps) _ (third_line second rest qs begins of more) is short few =
     omega (arith, ap length (begins_once bs second rest (p ∷ ps) [] short begins is).1)
 
-need_asked : (bs first rest needs more : List ℕ) (pool alone : ℕ) → Begins bs first rest → first ≡ row (alone ∷ []) → Short alone → bs ≡ row (pool ∷ needs) ++ (10 ∷ more) → All Short (pool ∷ needs) → 1 ≤ length needs → ⊥
+need_asked : (bs first rest needs more : List ℕ) (pool alone : ℕ) → Begins bs first rest → first ≡ row (alone ∷ []) → Short alone → bs ≡ row (pool ∷ needs) ++ (10 ∷ more) → AllByRecursion Short (pool ∷ needs) → 1 ≤ length needs → ⊥
 need_asked bs first rest [] more pool alone begins one small is short some = omega arith
 need_asked bs first rest (need ∷ needs) more pool alone begins one small is short some =
     let first_is = (begins_once bs first rest (pool ∷ need ∷ needs) more short begins is).0 in

@@ -1,6 +1,6 @@
 -- One field more of a line of numbers.
 use Rattle.std.proofs.Common.{◌≡◌, ℕ, ◌≤◌, List, [], ◌∷◌, ◌++◌, length, Ok, Err, decimal, sym, refl, ap, ◌∙◌, subst, append_assoc, append-nil, arith}
-use Rattle.std.specs.List.{AllByRecursion as All}
+use Rattle.std.specs.List.{AllByRecursion}
 use Rattle.std.proofs.lemmas.List.{flat_map_more, length_push}
 use Rattle.std.proofs.ByRecursion.{All-push}
 use Rattle.comparison.specs.Rows.{Short, Starts, FieldRead, RowOf, NoRow, row, front_of}
@@ -20,7 +20,7 @@ row_push (b ∷ d ∷ before) n =
 -- the line so far: these numbers with a comma after each, and the rest
 pub record Sofar (most : ℕ) (bs before rest : List ℕ) : Type 0 where
   pub text : bs ≡ front_of before ++ rest
-  pub short : All Short before
+  pub short : AllByRecursion Short before
   pub few : length before ≤ most
 
 pub nothing_yet : (most : ℕ) (bs found : List ℕ) → found ≡ [] → Sofar most bs found bs

@@ -13,7 +13,7 @@ use Rattle.ledger.specs.declared.zone.Zone.{Zone}
 use Rattle.ledger.specs.declared.zone.Zone.TheVariants.{Day, Night}
 use Rattle.std.proofs.lemmas.List.{append_cancel_right}
 use Rattle.std.proofs.lemmas.Bool.{false≢true}
-use Rattle.std.specs.List.{AllByRecursion as All}
+use Rattle.std.specs.List.{AllByRecursion}
 use Rattle.journal.proofs.Sameness.{same_kind, same_line}
 use Rattle.journal.specs.Lines.{HasForm, LineRead, Refused, Writable, WrongAt, forms, kind_of, line_text, others}
 use Rattle.journal.specs.Rows.{Fields}
@@ -49,7 +49,7 @@ number_lacks n few = decimal_lacks 44 n (λ digit. omega arith) (omega arith)
 missing_lacks : Lacks 44 (45 ∷ [])
 missing_lacks = lacks_by_test 44 (45 ∷ []) refl
 
-others_lack : (line : Line) → Writable line → All (Lacks 44) (others line)
+others_lack : (line : Line) → Writable line → AllByRecursion (Lacks 44) (others line)
 others_lack (Enter (Reading place zone flow day value)) fine =
     (number_lacks place fine.0, (zone_lacks zone, (flow_lacks flow, (number_lacks value fine.1, (missing_lacks, (day_text_commaless day, tt))))))
 others_lack (Enter (Change place zone flow day value start)) fine =

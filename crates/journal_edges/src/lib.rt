@@ -2,9 +2,9 @@
 #![tactic(auto)]
 
 #[cfg(test)]
-mod lines;
+mod line_cases;
 #[cfg(test)]
-mod output;
+mod output_lines;
 #[cfg(test)]
 mod parts;
 #[cfg(test)]

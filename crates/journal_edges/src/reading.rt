@@ -1,5 +1,5 @@
 //! What is read of a line, and what is refused.
-use crate::lines::LINES;
+use crate::line_cases::LINES;
 use fields::token::Token;
 use journal::read::read_line;
 use journal::row::fields_of;

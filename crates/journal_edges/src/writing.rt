@@ -1,5 +1,5 @@
 //! What is written of a line, and what is refused.
-use crate::lines::LINES;
+use crate::line_cases::LINES;
 use journal::write::write_line;
 use ledger::entry::Entry;
 use ledger::zone::{Flow, Zone};

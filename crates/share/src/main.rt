@@ -1,22 +1,23 @@
 // Prints, for the question on standard input, what each sharing rule gives every place.
 #![tactic(auto)]
 
-use anyhow::anyhow;
 use comparison::report::report;
+use std::io;
 use std::io::Read;
+use std::process::ExitCode;
 
-fn main(rt: HostRuntime) -> anyhow::Result<()> {
+fn main(rt: HostRuntime) -> io::Result<ExitCode> {
     let heap = rt.alloc();
     let mut text = Vec::new(heap);
     rt.stdin().read_to_end(&mut text)?;
     match report(heap, &text) {
         Ok(table) => {
             print!(rt; "{table}")?;
-            Ok(())
+            Ok(ExitCode::SUCCESS)
         }
         Err(problem) => {
             eprintln!(rt; "{problem}")?;
-            Err(anyhow!("no table"))
+            Ok(ExitCode::FAILURE)
         }
     }
 }
