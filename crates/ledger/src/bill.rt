@@ -1,16 +1,13 @@
 //! What a month and a year come to for one member.
+use crate::zone::ByZone;
 
 /// The figures of a member's month.
 #[derive(Clone, Copy, PartialEq, Eq, Debug)]
 pub struct Bill {
-    /// The kWh billed by day.
-    pub day_billed: u32,
-    /// The kWh billed by night.
-    pub night_billed: u32,
-    /// The kWh covered by day.
-    pub day_covered: u32,
-    /// The kWh covered by night.
-    pub night_covered: u32,
+    /// The kWh billed in each zone.
+    pub billed: ByZone<u32>,
+    /// The kWh covered in each zone.
+    pub covered: ByZone<u32>,
     /// The bill in drams.
     pub drams: i64,
     /// The debt after it, in drams.
@@ -20,10 +17,8 @@ pub struct Bill {
 /// The figures of the holder's year end.
 #[derive(Clone, Copy, PartialEq, Eq, Debug)]
 pub struct YearEnd {
-    /// The kWh paid by day.
-    pub day_paid: u64,
-    /// The kWh paid by night.
-    pub night_paid: u64,
+    /// The kWh paid in each zone.
+    pub paid: ByZone<u64>,
     /// What was added to the debt, in drams.
     pub drams: i64,
     /// The debt after it, in drams.

@@ -2,17 +2,24 @@
 use crate::zone::{Flow, Zone};
 use calendar::days::Day;
 
-/// An entry for the member at a place.
+/// One of the four registers of the member at a place.
+#[derive(Clone, Copy, PartialEq, Eq, Debug)]
+pub struct MemberRegister {
+    /// The member's place.
+    pub place: usize,
+    /// The zone of the register.
+    pub zone: Zone,
+    /// The flow that the register counts.
+    pub flow: Flow,
+}
+
+/// An entry for a member.
 #[derive(Clone, Copy, PartialEq, Eq, Debug)]
 pub enum Entry {
     /// A meter reading.
     Reading {
-        /// The member's place.
-        place: usize,
-        /// The zone of the register.
-        zone: Zone,
-        /// The flow of the register.
-        flow: Flow,
+        /// The register that is read.
+        register: MemberRegister,
         /// The day of the reading.
         day: Day,
         /// What the register stands at, in kWh.
@@ -20,12 +27,8 @@ pub enum Entry {
     },
     /// A meter change.
     Change {
-        /// The member's place.
-        place: usize,
-        /// The zone of the register.
-        zone: Zone,
-        /// The flow of the register.
-        flow: Flow,
+        /// The register whose meter is changed.
+        register: MemberRegister,
         /// The day of the change.
         day: Day,
         /// The final value of the old meter in kWh.
@@ -35,12 +38,8 @@ pub enum Entry {
     },
     /// A correction of one register's tally.
     Correction {
-        /// The member's place.
-        place: usize,
-        /// The zone of the register.
-        zone: Zone,
-        /// The flow of the register.
-        flow: Flow,
+        /// The register whose tally is corrected.
+        register: MemberRegister,
         /// What is added to the tally, in kWh.
         quantity: i32,
     },

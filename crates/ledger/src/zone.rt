@@ -1,4 +1,6 @@
-//! The zones of the day and the flows of energy, which together tell a register.
+//! The zones of the day and the flows of energy, which together tell a register of a member.
+ghost use Rattle.std.specs.Prelude.{◌≡◌};
+ghost use Rattle.ledger.specs.Zones.{of_zone};
 
 /// A zone of the day, each with registers and prices of its own.
 #[derive(Clone, Copy, PartialEq, Eq, Debug)]
@@ -16,4 +18,25 @@ pub enum Flow {
     Consumed,
     /// What the member delivered.
     Delivered,
+}
+
+/// A value for each zone.
+#[derive(Clone, Copy, PartialEq, Eq, Debug)]
+pub struct ByZone<T> {
+    /// The value by day.
+    pub day: T,
+    /// The value by night.
+    pub night: T,
+}
+
+impl<T: Copy> ByZone<T> {
+    /// The value of a zone.
+    pub fn of(self, zone: Zone) -> T
+        ensures { result ≡ of_zone self zone }
+    {
+        match zone {
+            Zone::Day => self.day,
+            Zone::Night => self.night,
+        }
+    }
 }
