@@ -5,11 +5,6 @@ use Rattle.fields.specs.Columns.{DateForm}
 use Rattle.fields.specs.Texts.{day_text}
 use Rattle.fields.proofs.column.DatedColumn.of.Goals as goal
 
-pub returns-in_default : goal.returns-in_default
-returns-in_default c =
-    no_value DateForm (λ d. d ≤ 36524) day_text (λ x. x.0) _ (day_spelled _)
-    (λ day early. no_date _ _ c.token_of.ensures c.in_default.not-Date day)
-
 pub returns-in_err-day : goal.returns-in_err-day
 returns-in_err-day c =
     rw c.from_residual.ensures
