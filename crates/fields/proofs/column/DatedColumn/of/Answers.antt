@@ -1,6 +1,5 @@
 use Rattle.std.proofs.Common.{◌≤◌, ◌∙◌, sym, subst}
 use Rattle.fields.proofs.Forming.{date_form, day_spelled, no_value}
-use Rattle.fields.proofs.Looks.{no_date}
 use Rattle.fields.specs.Columns.{DateForm}
 use Rattle.fields.specs.Texts.{day_text}
 use Rattle.fields.proofs.column.DatedColumn.of.Goals as goal
