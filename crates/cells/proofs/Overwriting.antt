@@ -1,9 +1,9 @@
 -- A text that is written into a slice part after part.
-use Rattle.std.proofs.Common.{◌≡◌, ℕ, ◌+◌, ◌≤◌, List, [], ◌++◌, length, take, drop, Some, None, Ok, Option, Result, sym, refl, ap, ◌∙◌, subst, add-zero, arith}
+use Rattle.std.proofs.Common.{◌≡◌, ℕ, ◌+◌, ◌≤◌, List, ◌++◌, length, take, drop, Some, None, Ok, Option, Result, sym, refl, ap, ◌∙◌, subst, arith}
 use lib.Seq.{paste}
 use Rattle.cells.specs.Cells.{Put, Written, overwritten}
 use Rattle.std.proofs.lemmas.List.Edits.{paste_all, paste-paste}
-use Rattle.std.proofs.lemmas.List.{length-append, take-append-drop}
+use Rattle.std.proofs.lemmas.List.{length-append}
 use Rattle.std.specs.Option.{ok_or}
 
 -- a text and then another after it are the two as one text
@@ -15,10 +15,6 @@ overwritten_more old at text more room =
     ∙ paste-paste old at text more (length text) (length more) refl refl room
     ∙ paste_all old at (text ++ more) (length text + length more) both
     ∙ ap (λ n. take at old ++ ((text ++ more) ++ drop (at + n) old)) both
-
--- no text leaves the slice as it is
-pub put_nothing : (old : List ℕ) (at : ℕ) → Put old at [] old at
-put_nothing old at = record { stop = omega arith; held = rw add-zero (sym (take-append-drop at old)) }
 
 -- two writers, one after the other, write the two texts as one
 pub put_more : {old : List ℕ} {at : ℕ} {text more mid new : List ℕ} {next end : ℕ} → Put old at text mid next → Put mid next more new end → at ≤ length old → Put old at (text ++ more) new end

@@ -1,30 +1,28 @@
-use Rattle.std.proofs.Common.{◌≡◌, ◌+◌, ◌<◌, length, arith, rules}
-use Rattle.cells.proofs.Joining.{fits_as, length_line_none, length_line_parts}
+use Rattle.std.proofs.Common.{◌+◌, length, ap, arith}
+use Rattle.cells.proofs.Joining.{length-line_of, marked_length}
 use Rattle.cells.proofs.rows.row_length.Goals as goal
+use Rattle.cells.specs.Cells.{cell_text}
+use Rattle.cells.specs.declared.rows.Cell.TheVariants.{Missing}
+use Rattle.std.proofs.lemmas.List.{take_all}
+use Rattle.std.proofs.lemmas.List.Sums.{sum_by_more_le}
 
-pub returns-in_err-length_after_first-in-len1-up : goal.returns-in_err-length_after_first-in-len1-up
-returns-in_err-length_after_first-in-len1-up c =
-    let some : 0 < length c.args.cells.now = search rules in
-    let parts = length_line_parts c.args.cells.now some in
-    rw c.from_residual.ensures (λ fits. c.in_err-length_after_first-in-len1-up.ensures (omega arith))
+pub returns-in_err-checked_add : goal.returns-in_err-checked_add
+returns-in_err-checked_add c =
+    let cells = c.args.cells.now in
+    let front = sum_by_more_le (λ cell. length (cell_text cell) + 1) cells c.loop-cell.cell-index Missing c.loop-cell-test.true in
+    let text = ap length c.text.ensures in
+    rw c.from_residual.ensures (λ fits. c.in_err-checked_add.ensures (omega (arith, length-line_of cells)))
 
-pub returns-in_err-checked_add-in-len1-up : goal.returns-in_err-checked_add-in-len1-up
-returns-in_err-checked_add-in-len1-up c =
-    let some : 0 < length c.args.cells.now = search rules in
-    let parts = length_line_parts c.args.cells.now some in
-    let rest = c.in_ok-length_after_first-in-len1-up.ensures in
-    rw c.from_residual-in_err-checked_add-in-len1-up.ensures (λ fits. c.in_err-checked_add-in-len1-up.ensures (omega arith))
+pub returns-in_err-length : goal.returns-in_err-length
+returns-in_err-length c =
+    let cells = c.args.cells.now in
+    let front = sum_by_more_le (λ cell. length (cell_text cell) + 1) cells c.loop-cell.cell-index Missing c.loop-cell-test.true in
+    let text = ap length c.text.ensures in
+    let sum = c.in_ok-checked_add.ensures in
+    rw c.from_residual-in_err-length.ensures (λ fits. c.in_err-length.ensures (omega (arith, length-line_of cells)))
 
-pub returns-in-empty : goal.returns-in-empty
-returns-in-empty c =
-    let none : length c.args.cells.now ≡ 0 = search rules in
-    let one = length_line_none c.args.cells.now none in
-    (omega arith, omega arith)
-
-pub returns-in_ok-checked_add-in-len1-up : goal.returns-in_ok-checked_add-in-len1-up
-returns-in_ok-checked_add-in-len1-up c =
-    let some : 0 < length c.args.cells.now = search rules in
-    let parts = length_line_parts c.args.cells.now some in
-    let rest = c.in_ok-length_after_first-in-len1-up.ensures in
-    let all = c.in_ok-checked_add-in-len1-up.ensures in
-    fits_as _ (c.in_ok-checked_add-in-len1-up.field-0 + 1) _ (omega arith) c.checked_add-in-len1-up.ensures
+pub returns : goal.returns
+returns c =
+    let cells = c.args.cells.now in
+    let all = ap marked_length (take_all c.loop-cell.cell-index cells c.loop-cell-test.false) in
+    (omega (arith, length-line_of cells), omega (arith, length-line_of cells))
