@@ -1,5 +1,5 @@
 //! Writes a line of cells into a slice.
-ghost use Rattle.std.specs.Prelude.{◌≡◌, ◌+◌, ◌^◌, ◌<◌, ◌≤◌, ◌↔◌, map, length, IsTrue};
+ghost use Rattle.std.specs.Prelude.{◌≡◌, ◌+◌, ◌^◌, ◌<◌, ◌≤◌, ◌↔◌, [], ◌∷◌, map, length, IsTrue};
 ghost use Rattle.cells.specs.Cells.{Put, Written, cell_text};
 ghost use Rattle.fields.specs.Rows.{line_of};
 ghost use Rattle.std.specs.Option.{SomeIff};
@@ -42,7 +42,7 @@ pub fn write_row(cells: &[Cell<'_>], out: &mut [u8], at: usize) -> Option<usize>
         }
         end = put(buffer.text(*cell), out, end);
     }
-    Some(put(&[LINE_FEED], out, end))
+    Some(end_line(out, end))
 }
 
 /// Writes a cell into the slice from `at` on, and answers the place after it; or none, with the slice as it was, exactly where there is no room.
@@ -79,6 +79,14 @@ fn row_length(cells: &[Cell<'_>]) -> Option<usize>
     }
     // No cells are the line feed alone.
     Some(length.max(1))
+}
+
+// Writes a line feed.
+fn end_line(out: &mut [u8], at: usize) -> usize
+    requires { at < length out.old }
+    ensures { Put out.old at (10 ∷ []) out.new result }
+{
+    put(&[LINE_FEED], out, at)
 }
 
 // Writes the text. A struct of the slice and the place would be no plainer: each contract would say besides that it holds the same slice.

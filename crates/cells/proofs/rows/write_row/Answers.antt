@@ -39,5 +39,5 @@ loop-i-preserved c =
 pub returns : goal.returns
 returns c =
     let all = ap (λ t. joined t ++ (10 ∷ [])) (take_all c.loop-i.i c.args.cells.now (omega arith)) in
-    let put = put_as all (put_more c.loop-i.invariant c.put.ensures (omega arith)) in
+    let put = put_as all (put_more c.loop-i.invariant c.end_line.ensures (omega arith)) in
     (put.stop, omega (arith, put.stop), put.held)
