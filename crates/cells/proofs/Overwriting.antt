@@ -7,10 +7,11 @@ use Rattle.std.proofs.lemmas.List.{length-append}
 use Rattle.std.specs.Option.{ok_or}
 
 -- a text and then another after it are the two as one text
-pub overwritten_more : (old : List ℕ) (at : ℕ) (text more : List ℕ) → at ≤ length old → overwritten (overwritten old at text) (at + length text) more ≡ overwritten old at (text ++ more)
-overwritten_more old at text more room =
+pub overwritten_more : (old : List ℕ) (at next : ℕ) (text more : List ℕ) → at ≤ length old → next ≡ at + length text → overwritten (overwritten old at text) next more ≡ overwritten old at (text ++ more)
+overwritten_more old at next text more room after =
     let both = sym (length-append text more) in
-    ap (λ mid. overwritten mid (at + length text) more) (sym (paste_all old at text (length text) refl))
+    ap (λ n. overwritten (overwritten old at text) n more) after
+    ∙ ap (λ mid. overwritten mid (at + length text) more) (sym (paste_all old at text (length text) refl))
     ∙ sym (paste_all (paste old at text (length text)) (at + length text) more (length more) refl)
     ∙ paste-paste old at text more (length text) (length more) refl refl room
     ∙ paste_all old at (text ++ more) (length text + length more) both
@@ -23,9 +24,8 @@ put_more {old} {at} {text} {more} {mid} {new} {next} {end} first second room =
       stop = omega (arith, first.stop, second.stop, length-append text more);
       held =
           second.held
-          ∙ ap (λ n. overwritten mid n more) first.stop
-          ∙ ap (λ list. overwritten list (at + length text) more) first.held
-          ∙ overwritten_more old at text more room;
+          ∙ ap (λ list. overwritten list next more) first.held
+          ∙ overwritten_more old at next text more room first.stop;
     }
 
 -- the same text in other words

@@ -1,5 +1,5 @@
 //! Writes a line of cells into a slice.
-ghost use Rattle.std.specs.Prelude.{◌≡◌, ◌+◌, ◌^◌, ◌<◌, ◌≤◌, ◌↔◌, [], ◌∷◌, map, length, IsTrue};
+ghost use Rattle.std.specs.Prelude.{◌≡◌, ◌+◌, ◌^◌, ◌<◌, ◌≤◌, ◌↔◌, map, length, IsTrue};
 ghost use Rattle.cells.specs.Cells.{Put, Written, cell_text};
 ghost use Rattle.fields.specs.Rows.{line_of};
 ghost use Rattle.std.specs.Option.{SomeIff};
@@ -27,6 +27,7 @@ pub enum Cell<'a> {
 }
 
 /// Writes the cells as a line into the slice from `at` on, and answers the place after it; or none, with the slice as it was, exactly where there is no room.
+#[tactic(auto, using(crate::proofs::Joining::joining))]
 pub fn write_row(cells: &[Cell<'_>], out: &mut [u8], at: usize) -> Option<usize>
     ensures { Written out.old at (line_of (map cell_text cells.now)) out.new result }
 {
@@ -42,7 +43,7 @@ pub fn write_row(cells: &[Cell<'_>], out: &mut [u8], at: usize) -> Option<usize>
         }
         end = put(buffer.text(*cell), out, end);
     }
-    Some(end_line(out, end))
+    Some(put(&[LINE_FEED], out, end))
 }
 
 /// Writes a cell into the slice from `at` on, and answers the place after it; or none, with the slice as it was, exactly where there is no room.
@@ -65,6 +66,7 @@ fn has_room(out: &[u8], at: usize, needed: usize) -> bool
 }
 
 // How many bytes the line of the cells takes, or none where that leaves 64 bits.
+#[tactic(auto, using(crate::proofs::Joining::joining))]
 fn row_length(cells: &[Cell<'_>]) -> Option<usize>
     ensures { let line = line_of (map cell_text cells.now) in
         SomeIff result (length line < 2 ^ 64) (length line) }
@@ -79,14 +81,6 @@ fn row_length(cells: &[Cell<'_>]) -> Option<usize>
     }
     // No cells are the line feed alone.
     Some(length.max(1))
-}
-
-// Writes a line feed.
-fn end_line(out: &mut [u8], at: usize) -> usize
-    requires { at < length out.old }
-    ensures { Put out.old at (10 ∷ []) out.new result }
-{
-    put(&[LINE_FEED], out, at)
 }
 
 // Writes the text. A struct of the slice and the place would be no plainer: each contract would say besides that it holds the same slice.

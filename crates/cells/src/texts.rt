@@ -39,6 +39,7 @@ impl Buffer {
                 self.date = date_bytes(date);
                 &self.date
             }
+            // A month is the front of any date in it.
             Cell::Month(month) => {
                 self.date = date_bytes(Date {
                     year: FIRST_YEAR + month / MONTHS,
