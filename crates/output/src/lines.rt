@@ -20,10 +20,10 @@ pub fn write_names(out: &mut [u8], at: usize) -> Result<usize, OutputRefusal>
 
 /// The figures of a member that have a line of the output: a bill or a year end.
 pub trait Figures: Copy {
-    // The line of the figures of the member at a place, up to a month.
+    // The line of the figures for a month, of the member at a place.
     ghost line: { ℕ → ℕ → Self → List ℕ };
 
-    /// The cells of that line.
+    /// The cells of the line of the figures for a month, of the member at a place.
     fn cells(self, month: Month, place: usize) -> [Cell<'static>; 9]
         ensures cells { line_of (map cell_text result) ≡ line month place self }
         ensures within_128 { length (line month place self) ≤ 128 };
