@@ -1,61 +1,71 @@
--- A line text after text, and the cells of a line one after the other.
-use Rattle.std.proofs.Common.{◌≡◌, ℕ, zero, suc, ◌+◌, ◌^◌, ◌<◌, ◌≤◌, List, [], ◌∷◌, ◌++◌, map, length, get_or, take, Option, sym, ap, ◌∙◌, subst, arith}
-use Rattle.fields.proofs.Widths.{length_line}
-use Rattle.cells.specs.Cells.{after_first, cell_text}
-use Rattle.fields.specs.Rows.{line_of, row}
+-- The cells of a line one after the other, and how many bytes they take.
+use Rattle.std.proofs.Common.{◌≡◌, ℕ, zero, suc, ◌+◌, ◌<◌, ◌≤◌, List, [], ◌∷◌, ◌++◌, map, length, max, get_or, take, refl, ap, sym, ◌∙◌, append_assoc, arith}
+use Rattle.cells.proofs.Overwriting.{overwritten_more}
+use Rattle.cells.specs.Cells.{cell_text}
 use Rattle.cells.specs.declared.rows.Cell.{Cell}
 use Rattle.cells.specs.declared.rows.Cell.TheVariants.{Missing}
-use Rattle.std.proofs.lemmas.List.{append-nil, flat_map_more, length-append, nil_from_length, take_more}
-use Rattle.std.proofs.lemmas.Slice.{first_rest}
-use Rattle.std.specs.List.{between}
-use Rattle.std.specs.Option.{SomeIff}
+use Rattle.fields.specs.Rows.{line_of, row}
+use Rattle.std.proofs.lemmas.List.{length-append, length-take-le, length_push, take_all, take_more}
+use Rattle.std.proofs.lemmas.List.Sums.{sum_by-cons, sum_by_more_le}
+use Rattle.std.specs.List.{sum_by}
+
+-- the cells parted by commas
+abbrev pub joined : List Cell → List ℕ
+joined cells = row (map cell_text cells)
+
+-- how many bytes the cells take, each with the comma or the line feed after it
+abbrev pub marked_length : List Cell → ℕ
+marked_length cells = sum_by (λ cell. length (cell_text cell) + 1) cells
+
+length-joined : (cells : List Cell) → 0 < length cells → length (joined cells) + 1 ≡ marked_length cells
+length-joined [] some = absurd (omega arith)
+length-joined (cell ∷ []) some = omega arith
+length-joined (cell ∷ next ∷ cells) some =
+    let rest = length-joined (next ∷ cells) (omega arith) in
+    let longer = length-append (cell_text cell) (44 ∷ joined (next ∷ cells)) in
+    let more = sum_by-cons (λ c. length (cell_text c) + 1) cell (next ∷ cells) in
+    omega arith
+
+-- no cells are the line feed alone
+pub length-line_of : (cells : List Cell) → length (line_of (map cell_text cells)) ≡ max (marked_length cells) 1
+length-line_of [] = omega arith
+length-line_of (cell ∷ cells) = omega (arith, length_push (joined (cell ∷ cells)) 10, length-joined (cell ∷ cells) (omega arith))
+
+-- that line has the room for the first cells, each with its mark, and the next
+pub line_room : (cells : List Cell) (i : ℕ) → i < length cells → marked_length (take i cells) + length (cell_text (get_or cells i Missing)) + 1 ≤ length (line_of (map cell_text cells))
+line_room cells i within = omega (arith, length-line_of cells, sum_by_more_le (λ cell. length (cell_text cell) + 1) cells i Missing within)
+
+-- the same where commas stand between the first cells, and before the next
+pub text_room : (cells : List Cell) (i : ℕ) → i < length cells → length (joined (take i cells)) + length (cell_text (get_or cells i Missing)) + 1 ≤ length (line_of (map cell_text cells))
+text_room cells zero within = omega (arith, line_room cells 0 within)
+text_room cells (suc i) within =
+    let some = length-take-le (suc i) cells (omega arith) in
+    omega (arith, length-joined (take (suc i) cells) (omega arith), line_room cells (suc i) within)
+
+pub comma_room : (cells : List Cell) (i : ℕ) → 0 < i → i < length cells → length (joined (take i cells)) + 1 + length (cell_text (get_or cells i Missing)) + 1 ≤ length (line_of (map cell_text cells))
+comma_room cells i later within =
+    let some = length-take-le i cells (omega arith) in
+    omega (arith, length-joined (take i cells) (omega arith), line_room cells i within)
 
 -- one cell more
-pub after_more : (cells : List Cell) (i : ℕ) → i < length cells → after_first (take (i + 1) cells) ≡ after_first (take i cells) ++ (44 ∷ cell_text (get_or cells i Missing))
-after_more cells i within =
-    ap after_first (take_more cells i Missing within)
-    ∙ sym (flat_map_more (λ cell. 44 ∷ cell_text cell) [] (take i cells) (get_or cells i Missing))
+pub joined_first : (cells : List Cell) (i : ℕ) → i ≤ 0 → i < length cells → joined (take (i + 1) cells) ≡ joined (take i cells) ++ cell_text (get_or cells i Missing)
+joined_first [] zero first within = absurd (omega arith)
+joined_first (cell ∷ cells) zero first within = refl
+joined_first cells (suc i) first within = absurd (omega arith)
 
-pub after_longer : (cells : List Cell) (i : ℕ) → i < length cells → length (after_first (take (i + 1) cells)) ≡ length (after_first (take i cells)) + 1 + length (cell_text (get_or cells i Missing))
-after_longer cells i within =
-    let more = ap length (after_more cells i within) in
-    omega (arith, length-append (after_first (take i cells)) (44 ∷ cell_text (get_or cells i Missing)))
+joined_push : (cells : List Cell) (cell : Cell) → 0 < length cells → joined (cells ++ cell ∷ []) ≡ joined cells ++ (44 ∷ cell_text cell)
+joined_push [] cell some = absurd (omega arith)
+joined_push (first ∷ []) cell some = refl
+joined_push (first ∷ next ∷ cells) cell some =
+    ap (λ rest. cell_text first ++ (44 ∷ rest)) (joined_push (next ∷ cells) cell (omega arith))
+    ∙ sym (append_assoc (cell_text first) (44 ∷ joined (next ∷ cells)) (44 ∷ cell_text cell))
 
--- the first cells take no more than all
-pub after_front : (i : ℕ) (cells : List Cell) → length (after_first (take i cells)) ≤ length (after_first cells)
-after_front zero cells = omega arith
-after_front (suc i) [] = omega arith
-after_front (suc i) (cell ∷ cells) =
-    let rest = after_front i cells in
-    omega (arith, length-append (cell_text cell) (after_first (take i cells)), length-append (cell_text cell) (after_first cells))
+pub joined_later : (cells : List Cell) (i : ℕ) → 0 < i → i < length cells → joined (take (i + 1) cells) ≡ joined (take i cells) ++ (44 ∷ []) ++ cell_text (get_or cells i Missing)
+joined_later cells i later within =
+    let some = length-take-le i cells (omega arith) in
+    ap joined (take_more cells i Missing within)
+    ∙ joined_push (take i cells) (get_or cells i Missing) (omega arith)
+    ∙ sym (append_assoc (joined (take i cells)) (44 ∷ []) (cell_text (get_or cells i Missing)))
 
--- a line is its first cell and what stands after it
-row_is : (cell : Cell) (cells : List Cell) → row (map cell_text (cell ∷ cells)) ≡ cell_text cell ++ after_first cells
-row_is cell [] = sym (append-nil (cell_text cell))
-row_is cell (next ∷ cells) = ap (λ rest. cell_text cell ++ (44 ∷ rest)) (row_is next cells)
-
-pub row_parts : (cells : List Cell) → 0 < length cells → row (map cell_text cells) ≡ cell_text (get_or cells 0 Missing) ++ after_first (between 1 (length cells) cells)
-row_parts cells some =
-    ap (λ list. row (map cell_text list)) (first_rest cells Missing some)
-    ∙ row_is (get_or cells 0 Missing) (between 1 (length cells) cells)
-
-pub length_row_parts : (cells : List Cell) → 0 < length cells → length (row (map cell_text cells)) ≡ length (cell_text (get_or cells 0 Missing)) + length (after_first (between 1 (length cells) cells))
-length_row_parts cells some =
-    ap length (row_parts cells some)
-    ∙ length-append (cell_text (get_or cells 0 Missing)) (after_first (between 1 (length cells) cells))
-
--- no cells are no text
-pub row_none : (cells : List Cell) → length cells ≡ 0 → row (map cell_text cells) ≡ []
-row_none cells none = ap (λ list. row (map cell_text list)) (nil_from_length cells none)
-
-pub length_line_parts : (cells : List Cell) → 0 < length cells → length (line_of (map cell_text cells)) ≡ length (cell_text (get_or cells 0 Missing)) + length (after_first (between 1 (length cells) cells)) + 1
-length_line_parts cells some = omega (arith, length_line (map cell_text cells), length_row_parts cells some)
-
-pub length_line_none : (cells : List Cell) → length cells ≡ 0 → length (line_of (map cell_text cells)) ≡ 1
-length_line_none cells none = ap (λ texts. length (texts ++ (10 ∷ []))) (row_none cells none)
-
--- a number of 64 bits that is computed in another way
-pub fits_as : (r : Option ℕ) (n m : ℕ) → n ≡ m → SomeIff r (n < 2 ^ 64) n → SomeIff r (m < 2 ^ 64) m
-fits_as r n m same told =
-    let P : ℕ → Type 0 = λ k. SomeIff r (k < 2 ^ 64) k in
-    subst P same told
+-- what the room and the end of a line go by
+pub ruleset joining = (length-line_of, line_room, text_room, comma_room, overwritten_more, length-append, take_all)

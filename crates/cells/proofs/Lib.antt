@@ -1,3 +1,2 @@
-mod Figures
-mod Joining
 pub mod Overwriting
+mod Joining

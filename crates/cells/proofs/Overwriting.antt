@@ -1,24 +1,21 @@
 -- A text that is written into a slice part after part.
-use Rattle.std.proofs.Common.{◌≡◌, ℕ, ◌+◌, ◌≤◌, List, [], ◌++◌, length, take, drop, Some, None, Ok, Option, Result, sym, refl, ap, ◌∙◌, subst, add-zero, arith}
+use Rattle.std.proofs.Common.{◌≡◌, ℕ, ◌+◌, ◌≤◌, List, ◌++◌, length, take, drop, Some, None, Ok, Option, Result, sym, refl, ap, ◌∙◌, subst, arith}
 use lib.Seq.{paste}
 use Rattle.cells.specs.Cells.{Put, Written, overwritten}
 use Rattle.std.proofs.lemmas.List.Edits.{paste_all, paste-paste}
-use Rattle.std.proofs.lemmas.List.{length-append, take-append-drop}
+use Rattle.std.proofs.lemmas.List.{length-append}
 use Rattle.std.specs.Option.{ok_or}
 
 -- a text and then another after it are the two as one text
-pub overwritten_more : (old : List ℕ) (at : ℕ) (text more : List ℕ) → at ≤ length old → overwritten (overwritten old at text) (at + length text) more ≡ overwritten old at (text ++ more)
-overwritten_more old at text more room =
+pub overwritten_more : (old : List ℕ) (at next : ℕ) (text more : List ℕ) → at ≤ length old → next ≡ at + length text → overwritten (overwritten old at text) next more ≡ overwritten old at (text ++ more)
+overwritten_more old at next text more room after =
     let both = sym (length-append text more) in
-    ap (λ mid. overwritten mid (at + length text) more) (sym (paste_all old at text (length text) refl))
+    ap (λ n. overwritten (overwritten old at text) n more) after
+    ∙ ap (λ mid. overwritten mid (at + length text) more) (sym (paste_all old at text (length text) refl))
     ∙ sym (paste_all (paste old at text (length text)) (at + length text) more (length more) refl)
     ∙ paste-paste old at text more (length text) (length more) refl refl room
     ∙ paste_all old at (text ++ more) (length text + length more) both
     ∙ ap (λ n. take at old ++ ((text ++ more) ++ drop (at + n) old)) both
-
--- no text leaves the slice as it is
-pub put_nothing : (old : List ℕ) (at : ℕ) → Put old at [] old at
-put_nothing old at = record { stop = omega arith; held = rw add-zero (sym (take-append-drop at old)) }
 
 -- two writers, one after the other, write the two texts as one
 pub put_more : {old : List ℕ} {at : ℕ} {text more mid new : List ℕ} {next end : ℕ} → Put old at text mid next → Put mid next more new end → at ≤ length old → Put old at (text ++ more) new end
@@ -27,9 +24,8 @@ put_more {old} {at} {text} {more} {mid} {new} {next} {end} first second room =
       stop = omega (arith, first.stop, second.stop, length-append text more);
       held =
           second.held
-          ∙ ap (λ n. overwritten mid n more) first.stop
-          ∙ ap (λ list. overwritten list (at + length text) more) first.held
-          ∙ overwritten_more old at text more room;
+          ∙ ap (λ list. overwritten list next more) first.held
+          ∙ overwritten_more old at next text more room first.stop;
     }
 
 -- the same text in other words

@@ -1,6 +1,5 @@
 -- The text of a cell, and what a slice holds once a text is written into it.
-use Rattle.std.specs.Prelude.{◌≡◌, ℕ, ◌+◌, ◌<◌, ◌≤◌, List, ◌∷◌, ◌++◌, length, take, drop, codes, decimal, Option, MatchOption}
-use Rattle.std.specs.List.{flat_map}
+use Rattle.std.specs.Prelude.{◌≡◌, ℕ, ◌+◌, ◌<◌, ◌≤◌, List, ◌++◌, length, take, drop, codes, decimal, Option, MatchOption}
 use Rattle.std.specs.Fmt.{signed_decimal}
 use Rattle.fields.specs.Texts.{date_text, month_text}
 use Rattle.cells.specs.declared.rows.Cell.{Cell}
@@ -14,10 +13,6 @@ cell_text (Number n) = decimal n
 cell_text (Signed z) = signed_decimal z
 cell_text (Date date) = date_text date
 cell_text (Month month) = month_text month
-
--- what stands in a line after its first cell: a comma before each of the others
-abbrev pub after_first : List Cell → List ℕ
-after_first cells = flat_map (λ cell. 44 ∷ cell_text cell) cells
 
 -- what a slice holds once a text stands in it from a place on, and the rest is as it was
 abbrev pub overwritten : List ℕ → ℕ → List ℕ → List ℕ

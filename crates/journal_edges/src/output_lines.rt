@@ -1,8 +1,9 @@
 //! The lines of the output and of a fault, and the lines of names.
 use ledger::bill::{Bill, YearEnd};
+use ledger::zone::ByZone;
 use lines::names::after_names;
 use output::fault::{Fault, Layer, write_fault};
-use output::lines::{write_bill, write_names, write_year};
+use output::lines::{write_figures, write_names};
 use output::refusal::OutputRefusal;
 use std::process::Abort;
 use std::test::Fail;
@@ -14,10 +15,11 @@ const BILLS: [(u16, usize, Bill, &[u8]); 3] = [
         288,
         1,
         Bill {
-            day_billed: 300,
-            night_billed: 33,
-            day_covered: 700,
-            night_covered: 0,
+            billed: ByZone {
+                day: 300,
+                night: 33,
+            },
+            covered: ByZone { day: 700, night: 0 },
             drams: 21_657,
             debt: 21_657,
         },
@@ -27,10 +29,8 @@ const BILLS: [(u16, usize, Bill, &[u8]); 3] = [
         1199,
         31,
         Bill {
-            day_billed: 0,
-            night_billed: 1,
-            day_covered: 2,
-            night_covered: 3,
+            billed: ByZone { day: 0, night: 1 },
+            covered: ByZone { day: 2, night: 3 },
             drams: -4,
             debt: -5,
         },
@@ -40,10 +40,14 @@ const BILLS: [(u16, usize, Bill, &[u8]); 3] = [
         u16::MAX,
         usize::MAX,
         Bill {
-            day_billed: u32::MAX,
-            night_billed: u32::MAX,
-            day_covered: u32::MAX,
-            night_covered: u32::MAX,
+            billed: ByZone {
+                day: u32::MAX,
+                night: u32::MAX,
+            },
+            covered: ByZone {
+                day: u32::MAX,
+                night: u32::MAX,
+            },
             drams: i64::MIN,
             debt: i64::MAX,
         },
@@ -60,7 +64,7 @@ fn check_bill(
     text: &[u8],
 ) -> Result<(), Fail> {
     let mut out = [BLANK; 130];
-    let end = write_bill(month, place, bill, &mut out, 1)?;
+    let end = write_figures(month, place, bill, &mut out, 1)?;
     assert!(rt; 1 <= end && end <= 130);
     assert_eq!(rt; out[0], BLANK);
     assert!(rt; &out[1..end] == text);
@@ -76,18 +80,18 @@ fn check_room(rt: &impl Abort, month: u16, place: usize, bill: Bill, end: usize)
     assert!(rt; 1 <= end && end <= 130);
     let mut short = [BLANK; 130];
     assert_eq!(rt;
-        write_bill(month, place, bill, &mut short[0..end - 1], 1),
+        write_figures(month, place, bill, &mut short[0..end - 1], 1),
         Err(OutputRefusal::Room)
     );
     assert!(rt; short == [BLANK; 130]);
     let mut whole = [BLANK; 130];
     assert_eq!(rt;
-        write_bill(month, place, bill, &mut whole[0..end], 1),
+        write_figures(month, place, bill, &mut whole[0..end], 1),
         Ok(end)
     );
     let mut past = [BLANK; 130];
     assert_eq!(rt;
-        write_bill(month, place, bill, &mut past, usize::MAX),
+        write_figures(month, place, bill, &mut past, usize::MAX),
         Err(OutputRefusal::Room)
     );
     assert!(rt; past == [BLANK; 130]);
@@ -106,8 +110,10 @@ const YEARS: [(u16, usize, YearEnd, &[u8]); 2] = [
         299,
         0,
         YearEnd {
-            day_paid: 120,
-            night_paid: 45,
+            paid: ByZone {
+                day: 120,
+                night: 45,
+            },
             drams: -3075,
             debt: -3075,
         },
@@ -117,8 +123,10 @@ const YEARS: [(u16, usize, YearEnd, &[u8]); 2] = [
         u16::MAX,
         usize::MAX,
         YearEnd {
-            day_paid: u64::MAX,
-            night_paid: u64::MAX,
+            paid: ByZone {
+                day: u64::MAX,
+                night: u64::MAX,
+            },
             drams: i64::MIN,
             debt: i64::MIN,
         },
@@ -130,7 +138,7 @@ const YEARS: [(u16, usize, YearEnd, &[u8]); 2] = [
 fn year_ends_are_written(rt: HostRuntime) -> Result<(), Fail> {
     for (month, place, year, text) in YEARS.iter().copied() {
         let mut out = [BLANK; 130];
-        let end = write_year(month, place, year, &mut out, 2)?;
+        let end = write_figures(month, place, year, &mut out, 2)?;
         assert!(rt; 2 <= end && end <= 130);
         assert!(rt; &out[0..2] == b"##".as_slice());
         assert!(rt; &out[2..end] == text);
@@ -139,7 +147,7 @@ fn year_ends_are_written(rt: HostRuntime) -> Result<(), Fail> {
         }
         let mut short = [BLANK; 39];
         assert_eq!(rt;
-            write_year(month, place, year, &mut short, 2),
+            write_figures(month, place, year, &mut short, 2),
             Err(OutputRefusal::Room)
         );
         assert!(rt; short == [BLANK; 39]);

@@ -21,14 +21,14 @@ output_names = codes "line,month,place,dayb,nightb,dayc,nightc,drams,debt\n"
 abbrev pub bill_line : (month place : ℕ) → Bill → List ℕ
 bill_line month place bill =
     line_of
-    (codes "BILL" ∷ month_text month ∷ decimal place ∷ decimal bill.day_billed ∷ decimal bill.night_billed
-    ∷ decimal bill.day_covered ∷ decimal bill.night_covered ∷ signed_decimal bill.drams ∷ signed_decimal bill.debt ∷ [])
+    (codes "BILL" ∷ month_text month ∷ decimal place ∷ decimal bill.billed.day ∷ decimal bill.billed.night
+    ∷ decimal bill.covered.day ∷ decimal bill.covered.night ∷ signed_decimal bill.drams ∷ signed_decimal bill.debt ∷ [])
 
 -- the holder's year end
 abbrev pub year_line : (month place : ℕ) → YearEnd → List ℕ
 year_line month place year =
     line_of
-    (codes "YEAR" ∷ month_text month ∷ decimal place ∷ decimal year.day_paid ∷ decimal year.night_paid
+    (codes "YEAR" ∷ month_text month ∷ decimal place ∷ decimal year.paid.day ∷ decimal year.paid.night
     ∷ codes "-" ∷ codes "-" ∷ signed_decimal year.drams ∷ signed_decimal year.debt ∷ [])
 
 -- what the writer of a text at a place of the output answers and leaves: it refuses exactly where the text does not fit

@@ -1,6 +1,5 @@
 //! The line of a fault.
-ghost use Rattle.std.specs.Prelude.{◌≡◌, ◌≤◌, length, Decides};
-ghost use Rattle.cells.specs.Cells.{Written};
+ghost use Rattle.std.specs.Prelude.{◌≡◌, ◌≤◌, length};
 ghost use Rattle.output.specs.Faults.{FaultWritten, fault_line, layer_word};
 
 use crate::refusal::OutputRefusal;
@@ -28,25 +27,19 @@ pub struct Fault {
     /// The part of the run that it comes from.
     pub layer: Layer,
     /// The number of the refusal.
+    // A number and no refusal: this crate lies below those whose refusals a fault tells, and its line has the number.
     pub number: u8,
 }
 
 /// Writes the line of a fault at the slice's start, and answers its length; or refuses a slice shorter than `FAULT_ROOM`, and leaves it as it was.
+#[tactic(auto, using(crate::proofs::Lengths::lengths))]
 pub fn write_fault(fault: Fault, out: &mut [u8]) -> Result<usize, OutputRefusal>
     ensures written { FaultWritten fault out.old out.new result }
     ensures within_64 { length (fault_line fault) ≤ 64 }
 {
-    if !has_room(out) {
+    if out.len() < FAULT_ROOM {
         return Err(OutputRefusal::Room);
     }
-    // No fault is longer than that, so the writer of the row does not refuse.
-    put_fault(fault, out).ok_or(OutputRefusal::Room)
-}
-
-// Writes the line of a fault, or answers none where there is no room.
-fn put_fault(fault: Fault, out: &mut [u8]) -> Option<usize>
-    ensures { Written out.old 0 (fault_line fault) out.new result }
-{
     let cells = [
         Cell::Word(b"FAULT"),
         Cell::Number(fault.line as u64),
@@ -54,7 +47,8 @@ fn put_fault(fault: Fault, out: &mut [u8]) -> Option<usize>
         Cell::Word(layer_word(fault.layer)),
         Cell::Number(fault.number as u64),
     ];
-    write_row(&cells, out, 0)
+    // No fault is longer than that, so the writer of the row does not refuse.
+    write_row(&cells, out, 0).ok_or(OutputRefusal::Room)
 }
 
 // The word of a part of a run.
@@ -65,11 +59,4 @@ fn layer_word(layer: Layer) -> &'static [u8]
         Layer::Book => b"BOOK",
         Layer::Text => b"TEXT",
     }
-}
-
-// Whether the slice has the room that any fault fits into.
-fn has_room(out: &[u8]) -> bool
-    ensures { Decides result (64 ≤ length out.now) }
-{
-    out.len() >= FAULT_ROOM
 }

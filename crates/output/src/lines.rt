@@ -1,6 +1,7 @@
 //! The line of names, the lines of bills and those of year ends.
-ghost use Rattle.std.specs.Prelude.{◌≤◌, length};
-ghost use Rattle.cells.specs.Cells.{Written};
+ghost use Rattle.std.specs.Prelude.{◌≡◌, ℕ, ◌≤◌, List, length, map};
+ghost use Rattle.cells.specs.Cells.{cell_text};
+ghost use Rattle.fields.specs.Rows.{line_of};
 ghost use Rattle.output.specs.Lines.{TextWritten, bill_line, output_names, year_line};
 
 use crate::refusal::OutputRefusal;
@@ -17,66 +18,65 @@ pub fn write_names(out: &mut [u8], at: usize) -> Result<usize, OutputRefusal>
     write_cell(Cell::Word(NAMES), out, at).ok_or(OutputRefusal::Room)
 }
 
-/// Writes the line of a member's month from `at` on, and answers the place after it; or refuses, with the slice as it was, exactly where there is no room.
-pub fn write_bill(
+/// The figures of a member that have a line of the output: a bill or a year end.
+pub trait Figures: Copy {
+    // The line of the figures for a month, of the member at a place.
+    ghost line: { ℕ → ℕ → Self → List ℕ };
+
+    /// The cells of the line of the figures for a month, of the member at a place.
+    fn cells(self, month: Month, place: usize) -> [Cell<'static>; 9]
+        ensures cells { line_of (map cell_text result) ≡ line month place self }
+        ensures within_128 { length (line month place self) ≤ 128 };
+}
+
+impl Figures for Bill {
+    ghost line = { bill_line };
+
+    #[tactic(auto, using(crate::proofs::Lengths::lengths))]
+    fn cells(self, month: Month, place: usize) -> [Cell<'static>; 9] {
+        [
+            Cell::Word(b"BILL"),
+            Cell::Month(month),
+            Cell::Number(place as u64),
+            Cell::Number(self.billed.day as u64),
+            Cell::Number(self.billed.night as u64),
+            Cell::Number(self.covered.day as u64),
+            Cell::Number(self.covered.night as u64),
+            Cell::Signed(self.drams),
+            Cell::Signed(self.debt),
+        ]
+    }
+}
+
+impl Figures for YearEnd {
+    ghost line = { year_line };
+
+    #[tactic(auto, using(crate::proofs::Lengths::lengths))]
+    fn cells(self, month: Month, place: usize) -> [Cell<'static>; 9] {
+        [
+            Cell::Word(b"YEAR"),
+            Cell::Month(month),
+            Cell::Number(place as u64),
+            Cell::Number(self.paid.day),
+            Cell::Number(self.paid.night),
+            Cell::Missing,
+            Cell::Missing,
+            Cell::Signed(self.drams),
+            Cell::Signed(self.debt),
+        ]
+    }
+}
+
+/// Writes the line of a member's figures from `at` on, and answers the place after it; or refuses, with the slice as it was, exactly where there is no room.
+pub fn write_figures<F: Figures>(
     month: Month,
     place: usize,
-    bill: Bill,
+    figures: F,
     out: &mut [u8],
     at: usize,
 ) -> Result<usize, OutputRefusal>
-    ensures written { TextWritten (bill_line month place bill) at out.old out.new result }
-    ensures within_128 { length (bill_line month place bill) ≤ 128 }
+    ensures written { TextWritten (F.line month place figures) at out.old out.new result }
+    ensures within_128 { length (F.line month place figures) ≤ 128 }
 {
-    put_bill(month, place, bill, out, at).ok_or(OutputRefusal::Room)
-}
-
-// Writes the line of a member's month, or answers none where there is no room.
-fn put_bill(month: Month, place: usize, bill: Bill, out: &mut [u8], at: usize) -> Option<usize>
-    ensures { Written out.old at (bill_line month place bill) out.new result }
-{
-    let cells = [
-        Cell::Word(b"BILL"),
-        Cell::Month(month),
-        Cell::Number(place as u64),
-        Cell::Number(bill.day_billed as u64),
-        Cell::Number(bill.night_billed as u64),
-        Cell::Number(bill.day_covered as u64),
-        Cell::Number(bill.night_covered as u64),
-        Cell::Signed(bill.drams),
-        Cell::Signed(bill.debt),
-    ];
-    write_row(&cells, out, at)
-}
-
-/// Writes the line of the holder's year end from `at` on, and answers the place after it; or refuses, with the slice as it was, exactly where there is no room.
-pub fn write_year(
-    month: Month,
-    place: usize,
-    year: YearEnd,
-    out: &mut [u8],
-    at: usize,
-) -> Result<usize, OutputRefusal>
-    ensures written { TextWritten (year_line month place year) at out.old out.new result }
-    ensures within_128 { length (year_line month place year) ≤ 128 }
-{
-    put_year(month, place, year, out, at).ok_or(OutputRefusal::Room)
-}
-
-// Writes the line of the holder's year end, or answers none where there is no room.
-fn put_year(month: Month, place: usize, year: YearEnd, out: &mut [u8], at: usize) -> Option<usize>
-    ensures { Written out.old at (year_line month place year) out.new result }
-{
-    let cells = [
-        Cell::Word(b"YEAR"),
-        Cell::Month(month),
-        Cell::Number(place as u64),
-        Cell::Number(year.day_paid),
-        Cell::Number(year.night_paid),
-        Cell::Missing,
-        Cell::Missing,
-        Cell::Signed(year.drams),
-        Cell::Signed(year.debt),
-    ];
-    write_row(&cells, out, at)
+    write_row(&figures.cells(month, place), out, at).ok_or(OutputRefusal::Room)
 }
