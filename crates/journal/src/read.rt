@@ -10,7 +10,7 @@ use crate::row::{Row, columns, fields_of};
 use crate::words::{FlowWord, ZoneWord};
 use fields::column::{Column, Dated, Missing, Number, Signed};
 use fields::field::WrongField;
-use ledger::entry::Entry;
+use ledger::entry::{Entry, MemberRegister};
 use lines::line::Line;
 use lines::refusal::ReadRefusal;
 
@@ -57,9 +57,11 @@ fn reading_in(row: Row<'_>) -> Result<Line, WrongField>
         Dated,
     >(row)?;
     Ok(Line::Enter(Entry::Reading {
-        place: place.0 as usize,
-        zone: zone.0,
-        flow: flow.0,
+        register: MemberRegister {
+            place: place.0 as usize,
+            zone: zone.0,
+            flow: flow.0,
+        },
         day: day.0,
         value: value.0,
     }))
@@ -79,9 +81,11 @@ fn change_in(row: Row<'_>) -> Result<Line, WrongField>
         Dated,
     >(row)?;
     Ok(Line::Enter(Entry::Change {
-        place: place.0 as usize,
-        zone: zone.0,
-        flow: flow.0,
+        register: MemberRegister {
+            place: place.0 as usize,
+            zone: zone.0,
+            flow: flow.0,
+        },
         day: day.0,
         value: value.0,
         start: start.0,
@@ -102,9 +106,11 @@ fn correction_in(row: Row<'_>) -> Result<Line, WrongField>
         Missing,
     >(row)?;
     Ok(Line::Enter(Entry::Correction {
-        place: place.0 as usize,
-        zone: zone.0,
-        flow: flow.0,
+        register: MemberRegister {
+            place: place.0 as usize,
+            zone: zone.0,
+            flow: flow.0,
+        },
         quantity: quantity.0,
     }))
 }
