@@ -4,7 +4,7 @@ use Rattle.calendar.proofs.Named.{dated, early_enough, same_date}
 use Rattle.calendar.specs.Dates.{date_of_day, day_number, day_of_date, is_date}
 use Rattle.fields.proofs.Reading.{own, plain_decimal}
 use Rattle.fields.proofs.Widths.{digits_9}
-use Rattle.fields.specs.Columns.{DateForm, NumberForm, SignedForm}
+use Rattle.fields.specs.Columns.{DateForm, Form, NumberForm, SignedForm}
 use Rattle.fields.specs.Texts.{date_text, day_text}
 use Rattle.std.proofs.lemmas.Fmt.{decimal_digit, decimal_nonempty, decimal-digits_value, digits_decimal, decimal_injective}
 use Rattle.std.proofs.lemmas.Str.Parse.{IsNumeralModel, digit_at, numerals_by_value, tells_by_index, digits_value_short}
@@ -69,3 +69,10 @@ pub day_spelled : (bs : List ℕ) → DateForm bs → (day : ℕ) × ((day ≤ 3
 day_spelled bs (d, form) =
     let day : day_of_date d ≡ Some (day_number d) = cond-true (is_date d) (Some (day_number d)) None form.0 in
     (day_number d, (early_enough d (day_number d) day, form.1 ∙ ap date_text (same_date d (day_number d) day)))
+
+-- ---- columns
+
+-- bytes that spell no value have not the form, where those that have it spell one; likewise of values that hold such a value
+pub no_value : {A X : Type 0} (form : Form) (good : A → Type 0) (text : A → List ℕ) (held : X → A) (bs : List ℕ) → (form bs → (a : A) × (good a × (bs ≡ text a))) → ((a : A) → good a → bs ≡ text a → ⊥) → (form bs → ⊥) × ((x : X) → good (held x) → bs ≡ text (held x) → ⊥)
+no_value form good text held bs spelled none =
+    ((λ has. let is = spelled has in none is.0 is.1.0 is.1.1), λ x. none (held x))

@@ -1,5 +1,5 @@
 -- What a column of a table may hold, by the text of a field.
-use Rattle.std.specs.Prelude.{◌≡◌, ℕ, zero, suc, ◌<◌, ◌≤◌, true, ◌⊎◌, List, [], ◌∷◌, length, codes, Result, MatchResult, ◌≢◌, slice_index, slice_index_or}
+use Rattle.std.specs.Prelude.{◌≡◌, ℕ, zero, suc, ◌<◌, ◌≤◌, true, ◌⊎◌, List, [], ◌∷◌, length, codes, Option, MatchOption, Result, MatchResult, ◌≢◌, slice_index, slice_index_or}
 use Rattle.calendar.specs.Dates.{is_date}
 use Rattle.calendar.specs.declared.date.Date.{Date}
 use Rattle.fields.specs.Texts.{date_text}
@@ -30,12 +30,24 @@ DateForm bs = (d : Date) × ((is_date d ≡ true) × (bs ≡ date_text d))
 abbrev pub MissingForm : Form
 MissingForm bs = bs ≡ codes "-"
 
--- what the reader of a column answers: a fine value whose text the field is, where it has the form; or the field's number
--- where it has not, and is the text of no fine value
-abbrev pub ColumnReads : {X : Type 0} → Form → (X → Type 0) → (X → List ℕ) → Field → Result X WrongField → Type 0
-ColumnReads {X} form fine text field r =
-    MatchResult r (λ x. form field.part.now × (fine x × (field.part.now ≡ text x)))
-    (λ wrong. (wrong.number ≡ field.number) × (form field.part.now → ⊥) × ((x : X) → fine x → field.part.now ≢ text x))
+-- how a column is spelled: the form of its texts, the values that have a text, and the text of each
+pub record Spelling (X : Type 0) : Type 1 where
+  pub form : Form
+  pub fine : X → Type 0
+  pub text : X → List ℕ
+
+-- what the reader of a value answers: a fine value whose text the bytes are, where they have the form; or none where they
+-- have not, and are the text of no fine value
+abbrev pub ValueRead : {X : Type 0} → Spelling X → List ℕ → Option X → Type 0
+ValueRead {X} s bs r =
+    MatchOption r ((s.form bs → ⊥) × ((x : X) → s.fine x → bs ≢ s.text x))
+    (λ x. s.form bs × (s.fine x × (bs ≡ s.text x)))
+
+-- what the reader of a column answers: such a value of the field, or the field's number
+abbrev pub ColumnReads : {X : Type 0} → Spelling X → Field → Result X WrongField → Type 0
+ColumnReads {X} s field r =
+    MatchResult r (λ x. s.form field.part.now × (s.fine x × (field.part.now ≡ s.text x)))
+    (λ wrong. (wrong.number ≡ field.number) × (s.form field.part.now → ⊥) × ((x : X) → s.fine x → field.part.now ≢ s.text x))
 
 -- the text at this place has not its form, and every one before it has
 abbrev pub FirstWrong : List Form → List (List ℕ) → ℕ → Type 0

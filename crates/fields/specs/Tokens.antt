@@ -1,9 +1,8 @@
--- What a field looks like, by its bytes alone, and what the readers of a field answer.
-use Rattle.std.specs.Prelude.{◌≡◌, ℕ, ◌⊎◌, List, length, codes, Result, MatchResult, ◌≢◌, slice_index, slice_index_or}
+-- What a field looks like, by its bytes alone.
+use Rattle.std.specs.Prelude.{◌≡◌, ℕ, ◌⊎◌, List, length, codes, ◌≢◌, slice_index, slice_index_or}
 use Rattle.std.specs.Borrow.{Bor}
 use Rattle.std.specs.Int.{IsInRange}
 use Rattle.fields.specs.declared.field.Field.{Field}
-use Rattle.fields.specs.declared.field.WrongField.{WrongField}
 use Rattle.fields.specs.declared.token.Token.{Token}
 use Rattle.fields.specs.declared.token.Token.TheVariants.{Missing, Word, Number, Date}
 
@@ -33,20 +32,3 @@ Tokened bs Missing = bs ≡ codes "-"
 Tokened bs (Date part) = (part.now ≡ bs) × DateLike bs
 Tokened bs (Number part) = (part.now ≡ bs) × NumberLike bs × (DateLike bs → ⊥) × (bs ≢ codes "-")
 Tokened bs (Word part) = (part.now ≡ bs) × WordLike bs
-
--- what a reader of a field answers: some good x whose text the field is, or the field's number where it is the text of none
-abbrev pub FieldReads : {X : Type 0} → (X → Type 0) → (X → List ℕ) → Field → Result X WrongField → Type 0
-FieldReads {X} Good text field r =
-    MatchResult r (λ x. Good x × (field.part.now ≡ text x))
-    (λ wrong. (wrong.number ≡ field.number) × ((x : X) → Good x → field.part.now ≢ text x))
-
--- that the field is missing, or its number
-abbrev pub FieldMissing : {U : Type 0} → Field → Result U WrongField → Type 0
-FieldMissing field r =
-    MatchResult r (λ _. field.part.now ≡ codes "-") (λ wrong. (wrong.number ≡ field.number) × (field.part.now ≢ codes "-"))
-
--- the whole field where it looks like a word, else its number
-abbrev pub FieldWord : Field → Result (Bor (List ℕ)) WrongField → Type 0
-FieldWord field r =
-    MatchResult r (λ word. (word.now ≡ field.part.now) × WordLike field.part.now)
-    (λ wrong. (wrong.number ≡ field.number) × (WordLike field.part.now → ⊥))

@@ -1,10 +1,13 @@
 //! What a column of a table holds.
-ghost use Rattle.std.specs.Prelude.{ℕ, ◌≤◌, List, codes, decimal, unsigned_abs};
-ghost use Rattle.fields.specs.Columns.{ColumnReads, DateForm, MissingForm, NumberForm, SignedForm};
+ghost use Rattle.std.specs.Prelude.{◌≤◌, codes, decimal, unsigned_abs};
+ghost use Rattle.fields.specs.Columns.{ColumnReads, DateForm, MissingForm, NumberForm, SignedForm, Spelling, ValueRead};
 ghost use Rattle.fields.specs.Texts.{day_text};
 ghost use Rattle.std.specs.Fmt.{signed_decimal};
 
+use crate::dates::day;
 use crate::field::{Field, WrongField};
+use crate::numbers::{number, signed_number};
+use crate::token::{Token, token_of};
 use calendar::days::Day;
 
 /// The largest number of a table: nine digits.
@@ -12,18 +15,19 @@ pub const MOST_NUMBER: u32 = 999_999_999;
 
 /// What a column holds: values, each with its text.
 pub trait Column: Copy {
-    // The form of the column's texts.
-    ghost form: { List ℕ → Type 0 };
+    // How the column is spelled: the form of its texts, the values that have a text, and the text of each.
+    ghost spelling: { Spelling Self };
 
-    // The values that have a text.
-    ghost fine: { Self → Type 0 };
-
-    // The text of a value.
-    ghost text: { Self → List ℕ };
+    /// The value that the bytes spell, or none where they have not the form of the column.
+    fn of(part: &[u8]) -> Option<Self>
+        ensures { ValueRead spelling part.now result };
 
     /// The value that the field spells, or the field's number where it has not the form of the column.
-    fn read(field: Field<'_>) -> Result<Self, WrongField>
-        ensures { ColumnReads form fine text field.entry result };
+    final fn read(field: Field<'_>) -> Result<Self, WrongField>
+        ensures { ColumnReads spelling field.entry result }
+    {
+        Self::of(field.part).ok_or(field.wrong())
+    }
 }
 
 /// A number of up to nine digits.
@@ -31,15 +35,18 @@ pub trait Column: Copy {
 pub struct Number(pub u32);
 
 impl Column for Number {
-    ghost form = { NumberForm };
+    ghost spelling = { record {
+      form = NumberForm;
+      fine = λ n. n.0 ≤ 999999999;
+      text = λ n. decimal n.0;
+    } };
 
-    ghost fine = { λ n. n.0 ≤ 999999999 };
-
-    ghost text = { λ n. decimal n.0 };
-
-    fn read(field: Field<'_>) -> Result<Number, WrongField> {
-        let value = field.number_to(MOST_NUMBER as u64)?;
-        Ok(Number(value as u32))
+    fn of(part: &[u8]) -> Option<Number> {
+        let Token::Number(digits) = token_of(part) else {
+            return None;
+        };
+        let value = number(digits, MOST_NUMBER as u64)?;
+        Some(Number(value as u32))
     }
 }
 
@@ -48,15 +55,18 @@ impl Column for Number {
 pub struct Signed(pub i32);
 
 impl Column for Signed {
-    ghost form = { SignedForm };
+    ghost spelling = { record {
+      form = SignedForm;
+      fine = λ z. unsigned_abs z.0 ≤ 999999999;
+      text = λ z. signed_decimal z.0;
+    } };
 
-    ghost fine = { λ z. unsigned_abs z.0 ≤ 999999999 };
-
-    ghost text = { λ z. signed_decimal z.0 };
-
-    fn read(field: Field<'_>) -> Result<Signed, WrongField> {
-        let value = field.signed_to(MOST_NUMBER)?;
-        Ok(Signed(value as i32))
+    fn of(part: &[u8]) -> Option<Signed> {
+        let Token::Number(digits) = token_of(part) else {
+            return None;
+        };
+        let value = signed_number(digits, MOST_NUMBER)?;
+        Some(Signed(value as i32))
     }
 }
 
@@ -65,15 +75,17 @@ impl Column for Signed {
 pub struct Dated(pub Day);
 
 impl Column for Dated {
-    ghost form = { DateForm };
+    ghost spelling = { record {
+      form = DateForm;
+      fine = λ date. date.0 ≤ 36524;
+      text = λ date. day_text date.0;
+    } };
 
-    ghost fine = { λ date. date.0 ≤ 36524 };
-
-    ghost text = { λ date. day_text date.0 };
-
-    fn read(field: Field<'_>) -> Result<Dated, WrongField> {
-        let day = field.day()?;
-        Ok(Dated(day))
+    fn of(part: &[u8]) -> Option<Dated> {
+        let Token::Date(date) = token_of(part) else {
+            return None;
+        };
+        Some(Dated(day(date)?))
     }
 }
 
@@ -82,14 +94,16 @@ impl Column for Dated {
 pub struct Missing;
 
 impl Column for Missing {
-    ghost form = { MissingForm };
+    ghost spelling = { record {
+      form = MissingForm;
+      fine = λ _. Unit {0};
+      text = λ _. codes "-";
+    } };
 
-    ghost fine = { λ _. Unit {0} };
-
-    ghost text = { λ _. codes "-" };
-
-    fn read(field: Field<'_>) -> Result<Missing, WrongField> {
-        field.missing()?;
-        Ok(Missing)
+    fn of(part: &[u8]) -> Option<Missing> {
+        match token_of(part) {
+            Token::Missing => Some(Missing),
+            _ => None,
+        }
     }
 }

@@ -17,8 +17,8 @@ pub enum Token<'a> {
     Date(&'a [u8]),
 }
 
-// The token of a part.
-pub(crate) fn token_of(part: &[u8]) -> Token<'_>
+/// The token of a part.
+pub fn token_of(part: &[u8]) -> Token<'_>
     ensures { Tokened part.now result }
 {
     match part {
