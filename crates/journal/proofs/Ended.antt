@@ -32,5 +32,4 @@ fields_before bs body line None e none =
 fields_before bs body line (Some found) e is = (
   record { seven = refl; commaless = is.0.commaless; whole = e ∙ ap (λ front. front ++ (10 ∷ [])) is.0.whole },
   is.1,
-  is.2,
 )

@@ -1,5 +1,5 @@
 //! Writes a line of a journal.
-ghost use Rattle.std.specs.Prelude.{◌≡◌, ◌≤◌, ◌↔◌, [], ◌∷◌, decimal, length, map, IsTrue};
+ghost use Rattle.std.specs.Prelude.{◌≡◌, ◌≤◌, ◌↔◌, ◌∷◌, decimal, length, map, IsTrue};
 ghost use Rattle.calendar.specs.Dates.{date_of_day};
 ghost use Rattle.cells.specs.Cells.{cell_text};
 ghost use Rattle.cells.specs.declared.rows.Cell.TheVariants as cells;
@@ -7,11 +7,10 @@ ghost use Rattle.ledger.specs.declared.entry.Entry.TheVariants as entries;
 ghost use Rattle.journal.specs.Lines.{Writable, kind_of, line_text, others};
 ghost use Rattle.journal.specs.Words.{flow_word, kind_word, zone_word};
 ghost use Rattle.journal.specs.Writing.{LineWritten, ReadThenWritten, WrittenThenRead};
-ghost use Rattle.journal.specs.declared.kind.Kind.TheVariants as kinds;
 ghost use Rattle.lines.specs.declared.line.Line.TheVariants as lines;
 
 use crate::kind::Kind;
-use crate::words::{flow_word, kind_word, zone_word};
+use crate::words::Worded;
 use calendar::date::date_of;
 use calendar::days::{Day, LAST_DAY};
 use cells::rows::{Cell, write_row};
@@ -52,33 +51,36 @@ fn is_writable(line: Line) -> bool
     ensures { IsTrue result ↔ Writable line }
 {
     match line {
-        Line::Enter(
-            Entry::Reading {
-                register,
-                day,
-                value,
-            },
-        ) => is_short(register.place as u64) && is_short(value as u64) && day <= LAST_DAY,
-        Line::Enter(
-            Entry::Change {
-                register,
-                day,
-                value,
-                start,
-            },
-        ) => {
+        Line::Enter(entry) => is_entry_writable(entry),
+        Line::Issue | Line::Year => true,
+    }
+}
+
+// The same of an entry.
+fn is_entry_writable(entry: Entry) -> bool
+    ensures { IsTrue result ↔ Writable (lines.Enter entry) }
+{
+    match entry {
+        Entry::Reading {
+            register,
+            day,
+            value,
+        } => is_short(register.place as u64) && is_short(value as u64) && day <= LAST_DAY,
+        Entry::Change {
+            register,
+            day,
+            value,
+            start,
+        } => {
             is_short(register.place as u64)
                 && is_short(value as u64)
                 && is_short(start as u64)
                 && day <= LAST_DAY
         }
-        Line::Enter(Entry::Correction { register, quantity }) => {
+        Entry::Correction { register, quantity } => {
             is_short(register.place as u64) && is_short(quantity.unsigned_abs() as u64)
         }
-        Line::Enter(Entry::Payment { place, drams }) => {
-            is_short(place as u64) && is_short(drams as u64)
-        }
-        Line::Issue | Line::Year => true,
+        Entry::Payment { place, drams } => is_short(place as u64) && is_short(drams as u64),
     }
 }
 
@@ -89,73 +91,72 @@ fn is_short(n: u64) -> bool
     n <= MOST_NUMBER as u64
 }
 
-// The cells of a line.
+// The cells of a line, by its seven fields.
 fn cells_of(line: Line) -> [Cell<'static>; 7]
     requires { Writable line }
     ensures { map cell_text result ≡ kind_word (kind_of line) ∷ others line }
 {
     match line {
-        Line::Enter(
-            Entry::Reading {
-                register,
-                day,
-                value,
-            },
-        ) => {
-            let value = Cell::Number(value as u64);
-            register_cells(
-                Kind::Reading,
-                register,
-                value,
-                Cell::Missing,
-                date_cell(day),
-            )
-        }
-        Line::Enter(
-            Entry::Change {
-                register,
-                day,
-                value,
-                start,
-            },
-        ) => {
-            let value = Cell::Number(value as u64);
-            let start = Cell::Number(start as u64);
-            register_cells(Kind::Change, register, value, start, date_cell(day))
-        }
-        Line::Enter(Entry::Correction { register, quantity }) => {
-            let quantity = Cell::Signed(quantity as i64);
-            register_cells(
-                Kind::Correction,
-                register,
-                quantity,
-                Cell::Missing,
-                Cell::Missing,
-            )
-        }
-        Line::Enter(Entry::Payment { place, drams }) => payment_cells(place, drams),
+        Line::Enter(entry) => entry_cells(entry),
         Line::Issue => bare_cells(Kind::Issue),
         Line::Year => bare_cells(Kind::Year),
     }
 }
 
-// The cells of a line of this kind for a register, with these values and date.
+// The same of an entry.
+fn entry_cells(entry: Entry) -> [Cell<'static>; 7]
+    requires { Writable (lines.Enter entry) }
+    ensures { let line = lines.Enter entry in
+        map cell_text result ≡ kind_word (kind_of line) ∷ others line }
+{
+    match entry {
+        Entry::Reading {
+            register,
+            day,
+            value,
+        } => register_cells(
+            Kind::Reading,
+            register,
+            [Cell::Number(value as u64), Cell::Missing, date_cell(day)],
+        ),
+        Entry::Change {
+            register,
+            day,
+            value,
+            start,
+        } => register_cells(
+            Kind::Change,
+            register,
+            [
+                Cell::Number(value as u64),
+                Cell::Number(start as u64),
+                date_cell(day),
+            ],
+        ),
+        Entry::Correction { register, quantity } => register_cells(
+            Kind::Correction,
+            register,
+            [Cell::Signed(quantity as i64), Cell::Missing, Cell::Missing],
+        ),
+        Entry::Payment { place, drams } => payment_cells(place, drams),
+    }
+}
+
+// The cells of a line of this kind for a register, of which these are the last three.
 fn register_cells(
     kind: Kind,
     register: MemberRegister,
-    value: Cell<'static>,
-    second: Cell<'static>,
-    date: Cell<'static>,
+    rest: [Cell<'static>; 3],
 ) -> [Cell<'static>; 7]
     ensures { map cell_text result ≡ kind_word kind ∷ decimal register.place
-        ∷ zone_word register.zone ∷ flow_word register.flow
-        ∷ cell_text value.entry ∷ cell_text second.entry ∷ cell_text date.entry ∷ [] }
+        ∷ zone_word register.zone ∷ flow_word register.flow ∷ map cell_text rest.entry }
 {
+    let [value, second, date] = rest;
     [
-        Cell::Word(kind_word(kind)),
+        Cell::Word(kind.word()),
         Cell::Number(register.place as u64),
-        Cell::Word(zone_word(register.zone)),
-        Cell::Word(flow_word(register.flow)),
+        Cell::Word(register.zone.word()),
+        Cell::Word(register.flow.word()),
         value,
         second,
         date,
@@ -164,10 +165,11 @@ fn register_cells(
 
 // The cells of a payment.
 fn payment_cells(place: usize, drams: u32) -> [Cell<'static>; 7]
-    ensures { map cell_text result ≡ kind_word kinds.Payment ∷ others (lines.Enter (entries.Payment place drams)) }
+    ensures { let line = lines.Enter (entries.Payment place drams) in
+        map cell_text result ≡ kind_word (kind_of line) ∷ others line }
 {
     [
-        Cell::Word(kind_word(Kind::Payment)),
+        Cell::Word(Kind::Payment.word()),
         Cell::Number(place as u64),
         Cell::Missing,
         Cell::Missing,
@@ -182,7 +184,7 @@ fn bare_cells(kind: Kind) -> [Cell<'static>; 7]
     ensures { map cell_text result ≡ kind_word kind ∷ others lines.Issue }
 {
     let mut cells = [Cell::Missing; 7];
-    cells[0] = Cell::Word(kind_word(kind));
+    cells[0] = Cell::Word(kind.word());
     cells
 }
 

@@ -1,6 +1,6 @@
 use Rattle.std.proofs.Common.{rules}
 use Rattle.fields.proofs.Parting.{comma_found, one_alone, one_fewer}
-use Rattle.journal.proofs.row.row_of.Goals as goal
+use Rattle.journal.proofs.row.Row.of_body.Goals as goal
 
 pub returns-in_err-kind : goal.returns-in_err-kind
 returns-in_err-kind c =

@@ -1,6 +1,6 @@
 use Rattle.std.proofs.Common.{arith}
 use Rattle.std.proofs.lemmas.Result.{err_from_is_err_and}
-use Rattle.journal.proofs.row.columns.Goals as goal
+use Rattle.journal.proofs.row.Row.columns.Goals as goal
 
 pub returns-in_err-zone : goal.returns-in_err-zone
 returns-in_err-zone g c =

@@ -1,7 +1,7 @@
 use Rattle.std.proofs.Common.{rules}
 use Rattle.journal.proofs.Ended.{before_the_end, ended_line, fields_before}
-use Rattle.journal.proofs.row.fields_of.Goals as goal
-use Rattle.journal.proofs.row.fields_of.Goals.{in_default-via-then-text-lt1, in_default-via-else-text-lt1+in_default-1}
+use Rattle.journal.proofs.row.Row.of.Goals as goal
+use Rattle.journal.proofs.row.Row.of.Goals.{in_default-via-then-text-lt1, in_default-via-else-text-lt1+in_default-1}
 
 pub returns-in_default : goal.returns-in_default
 returns-in_default c texts is =
@@ -10,4 +10,4 @@ returns-in_default c texts is =
 
 pub returns : goal.returns
 returns c =
-    fields_before _ _ _ _ (before_the_end c.args.text.now (record { some = search rules; feed = search rules })) c.row_of.ensures
+    fields_before _ _ _ _ (before_the_end c.args.text.now (record { some = search rules; feed = search rules })) c.of_body.ensures
