@@ -23,13 +23,13 @@ pub struct Row<'a> {
     /// The date.
     pub date: Field<'a>,
     // The fields are counted from 1.
-    ghost kind_first: { kind.number ≡ 1 },
-    ghost member_second: { member.number ≡ 2 },
-    ghost zone_third: { zone.number ≡ 3 },
-    ghost flow_fourth: { flow.number ≡ 4 },
-    ghost value_fifth: { value.number ≡ 5 },
-    ghost second_sixth: { second.number ≡ 6 },
-    ghost date_seventh: { date.number ≡ 7 },
+    pub ghost kind_first: { kind.number ≡ 1 },
+    pub ghost member_second: { member.number ≡ 2 },
+    pub ghost zone_third: { zone.number ≡ 3 },
+    pub ghost flow_fourth: { flow.number ≡ 4 },
+    pub ghost value_fifth: { value.number ≡ 5 },
+    pub ghost second_sixth: { second.number ≡ 6 },
+    pub ghost date_seventh: { date.number ≡ 7 },
 }
 
 impl<'a> Row<'a> {

@@ -1,5 +1,6 @@
 //! The words of a journal, read and told.
 ghost use Rattle.std.specs.Prelude.{◌≡◌, ℕ, List, Contains};
+ghost use Rattle.fields.specs.Reads.{Reads};
 ghost use Rattle.fields.specs.Tokens.{WordLike};
 ghost use Rattle.std.proofs.Common.{rules};
 ghost use Rattle.journal.specs.Words.{WordForm, flow_word, kind_word, zone_word};
@@ -24,6 +25,16 @@ pub trait Worded: Copy + 'static {
 
     // No word looks like a number or a date.
     ghost looks: { (value : Self) → WordLike (word_of value) };
+
+    /// The value with this word, or none where no value has it.
+    final fn of_word(word: &[u8]) -> Option<Self>
+        ensures { Reads (λ _. Unit {0}) word_of word.now result }
+    {
+        Self::all()
+            .iter()
+            .copied()
+            .find(|value| value.word() == word)
+    }
 }
 
 impl Worded for Zone {
@@ -100,10 +111,9 @@ impl<W: Worded> Column for Word<W> {
     } };
 
     fn of(part: &[u8]) -> Option<Word<W>> {
-        let Token::Word(word) = token_of(part) else {
-            return None;
-        };
-        let value = W::all().iter().copied().find(|value| value.word() == word)?;
-        Some(Word(value))
+        match token_of(part) {
+            Token::Word(word) => W::of_word(word).map(Word),
+            _ => None,
+        }
     }
 }
