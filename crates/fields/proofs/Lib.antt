@@ -2,6 +2,7 @@ mod Dating
 pub mod Forming
 pub mod Lacking
 pub mod Looks
+mod Marking
 pub mod Parting
 mod Reading
 pub mod Signs

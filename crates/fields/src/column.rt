@@ -1,6 +1,7 @@
 //! What a column of a table holds.
 ghost use Rattle.std.specs.Prelude.{◌≤◌, codes, decimal, unsigned_abs};
 ghost use Rattle.fields.specs.Columns.{ColumnReads, DateForm, MissingForm, NumberForm, SignedForm, Spelling, ValueRead};
+ghost use Rattle.fields.specs.Reads.{Reads};
 ghost use Rattle.fields.specs.Texts.{day_text};
 ghost use Rattle.std.specs.Fmt.{signed_decimal};
 
@@ -45,9 +46,16 @@ impl Column for Number {
         let Token::Number(digits) = token_of(part) else {
             return None;
         };
-        let value = number(digits, MOST_NUMBER as u64)?;
-        Some(Number(value as u32))
+        Some(Number(short_number(digits)?))
     }
+}
+
+// The number of up to nine digits that the part spells.
+fn short_number(part: &[u8]) -> Option<u32>
+    ensures { Reads (λ n. n ≤ 999999999) decimal part.now result }
+{
+    let value = number(part, MOST_NUMBER as u64)?;
+    Some(value as u32)
 }
 
 /// A signed number of up to nine digits.
@@ -65,9 +73,16 @@ impl Column for Signed {
         let Token::Number(digits) = token_of(part) else {
             return None;
         };
-        let value = signed_number(digits, MOST_NUMBER)?;
-        Some(Signed(value as i32))
+        Some(Signed(short_signed(digits)?))
     }
+}
+
+// The signed number of up to nine digits that the part spells.
+fn short_signed(part: &[u8]) -> Option<i32>
+    ensures { Reads (λ z. unsigned_abs z ≤ 999999999) signed_decimal part.now result }
+{
+    let value = signed_number(part, MOST_NUMBER)?;
+    Some(value as i32)
 }
 
 /// The day of a date.

@@ -1,7 +1,8 @@
 //! Finds the commas and the line feeds of a text.
-ghost use Rattle.std.specs.Prelude.{◌<◌, length};
+ghost use Rattle.std.specs.Prelude.{◌≡◌, ◌==◌, ◌<◌, length};
 ghost use Rattle.fields.specs.Cuts.{Around, Cuts};
 ghost use Rattle.fields.specs.Marks.{Next, NextLineFeed};
+ghost use Rattle.std.specs.List.{position_from};
 
 /// What parts the fields of a line.
 pub const COMMA: u8 = b',';
@@ -47,10 +48,14 @@ fn around(text: &[u8], i: usize) -> (&[u8], &[u8])
 fn next(text: &[u8], from: usize, mark: u8) -> Option<usize>
     ensures { Next mark text.now from result }
 {
-    for i in from..text.len() {
-        if text[i] == mark {
-            return Some(i);
-        }
-    }
-    None
+    let rest = text.get(from..)?;
+    let ahead = first(rest, mark)?;
+    Some(from + ahead)
+}
+
+// The index of the first byte that is the mark.
+fn first(text: &[u8], mark: u8) -> Option<usize>
+    ensures { result ≡ position_from (λ byte. byte == mark) 0 text.now }
+{
+    text.iter().position(|byte| *byte == mark)
 }

@@ -1,5 +1,5 @@
 //! Reads the numbers of a text.
-ghost use Rattle.std.specs.Prelude.{◌^◌, ◌<◌, ◌≤◌, decimal, Decides, unsigned_abs};
+ghost use Rattle.std.specs.Prelude.{◌^◌, ◌<◌, ◌≤◌, ◌↔◌, decimal, IsTrue, unsigned_abs};
 ghost use Rattle.fields.specs.Digits.{BelowZero, Digit, Grown, Plain, Spelled};
 ghost use Rattle.fields.specs.Reads.{Reads};
 ghost use Rattle.std.specs.Fmt.{signed_decimal};
@@ -18,8 +18,7 @@ pub const BASE: u64 = 10;
 pub fn number(part: &[u8], most: u64) -> Option<u64>
     ensures { Reads (λ n. n ≤ most) decimal part.now result }
 {
-    let value = spelled(part)?;
-    if value <= most { Some(value) } else { None }
+    spelled(part).filter(|value| *value <= most)
 }
 
 /// The number that `part` spells likewise, after a minus where it is below 0, if it is within `most` either way.
@@ -40,11 +39,7 @@ fn below_zero(value: u64) -> Option<i64>
     requires { value < 2 ^ 32 }
     ensures { BelowZero value result }
 {
-    if value == 0 {
-        None
-    } else {
-        Some(-(value as i64))
-    }
+    (value > 0).then(|| -(value as i64))
 }
 
 // The number of 64 bits that the part spells.
@@ -64,7 +59,7 @@ fn spelled(part: &[u8]) -> Option<u64>
 
 // Whether the part has a byte, and no zero before others.
 fn is_plain(part: &[u8]) -> bool
-    ensures { Decides result (Plain part.now) }
+    ensures { IsTrue result ↔ Plain part.now }
 {
     match part {
         [] => false,

@@ -14,7 +14,3 @@ read_number (Form field) = 26
 abbrev pub write_number : WriteRefusal → ℕ
 write_number writing.Form = 26
 write_number writing.Room = 27
-
--- the refusal of a line by the number of its first wrong field
-abbrev pub form : ℕ → ReadRefusal
-form field = Form field

@@ -1,6 +1,7 @@
 //! Why a line is not read or not written.
 ghost use Rattle.std.specs.Prelude.{◌≡◌};
-ghost use Rattle.lines.specs.Refusals.{form, read_number, write_number};
+ghost use Rattle.lines.specs.Refusals.{read_number, write_number};
+ghost use Rattle.lines.specs.declared.refusal.ReadRefusal.TheVariants.{Form};
 
 use fields::field::WrongField;
 
@@ -29,7 +30,7 @@ impl ReadRefusal {
 }
 
 impl From<WrongField> for ReadRefusal {
-    ghost from_gives = { λ wrong r. r ≡ form wrong.number };
+    ghost from_gives = { λ wrong r. r ≡ Form wrong.number };
 
     fn from(wrong: WrongField) -> ReadRefusal {
         ReadRefusal::Form {
