@@ -1,5 +1,5 @@
 -- What the reader answers of a line's text.
-use Rattle.std.proofs.Common.{◌≡◌, ℕ, zero, suc, ◌≤◌, List, [], ◌∷◌, length, is_ok, Ok, Err, decimal, Decides, Result, sym, refl, ap, ◌∙◌, subst, inl, inr, ⊎_elim, arith}
+use Rattle.std.proofs.Common.{◌≡◌, ℕ, zero, suc, ◌≤◌, List, [], ◌∷◌, length, ◌↔◌, IsOk, Ok, Err, decimal, Result, sym, refl, ap, ◌∙◌, subst, inl, inr, ⊎_elim, arith}
 use Rattle.fields.proofs.Forming.{date_form, number_form, signed_form}
 use Rattle.fields.proofs.Lacking.{decimal_lacks, lacks_by_test, signed_lacks}
 use Rattle.fields.proofs.Parting.{one_parting}
@@ -132,7 +132,7 @@ not_refused bs (refusals.Form field) has wrong =
 -- ---- the answers of the reader
 
 -- a line is read exactly where the bytes have the form of one
-pub read_exactly : (bs : List ℕ) (r : Result Line ReadRefusal) → LineRead bs r → Decides (is_ok r) (HasForm bs)
+pub read_exactly : (bs : List ℕ) (r : Result Line ReadRefusal) → LineRead bs r → IsOk r ↔ HasForm bs
 read_exactly bs (Ok line) is = ((λ read. has_form line bs is.0 is.1), λ has. refl)
 read_exactly bs (Err refusal) is = ((λ read. absurd (false≢true read)), λ has. absurd (not_refused bs refusal has is))
 

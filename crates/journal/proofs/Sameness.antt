@@ -1,5 +1,5 @@
 -- A line is told by its kind and its six other fields.
-use Rattle.std.proofs.Common.{◌≡◌, ℕ, ◌^◌, ◌<◌, ◌≤◌, cond, eqb, List, get_or, ℤ, pos, negsuc, nat_abs, decimal, sym, refl, ap, ◌∙◌, subst, arith}
+use Rattle.std.proofs.Common.{◌≡◌, ℕ, ◌^◌, ◌<◌, ◌≤◌, if◌then◌else◌, ◌==◌, get_or, ℤ, pos, negsuc, nat_abs, decimal, sym, refl, ap, ◌∙◌, subst, arith}
 use lib.Signed.{mag}
 use Rattle.fields.proofs.Spelling.{same_day_text}
 use Rattle.ledger.specs.declared.entry.Entry.TheVariants.{Change, Correction, Payment, Reading}
@@ -17,37 +17,27 @@ use Rattle.journal.specs.declared.kind.Kind.TheVariants as kinds
 use Rattle.lines.specs.declared.line.Line.{Line}
 use Rattle.lines.specs.declared.line.Line.TheVariants.{Enter, Issue, Year}
 
--- ---- words, each told by its first byte
-
-abbrev first : List ℕ → ℕ
-first bs = get_or bs 0 0
-
-abbrev zone_by : ℕ → Zone
-zone_by c = cond (eqb c 68) Day Night
-
-zone_told : (zone : Zone) → zone_by (first (zone_word zone)) ≡ zone
-zone_told Day = refl
-zone_told Night = refl
+-- ---- words
 
 same_zone : (y z : Zone) → zone_word y ≡ zone_word z → y ≡ z
-same_zone y z e = sym (zone_told y) ∙ ap (λ bs. zone_by (first bs)) e ∙ zone_told z
-
-abbrev flow_by : ℕ → Flow
-flow_by c = cond (eqb c 85) Consumed Delivered
-
-flow_told : (flow : Flow) → flow_by (first (flow_word flow)) ≡ flow
-flow_told Consumed = refl
-flow_told Delivered = refl
+same_zone Day Day e = refl
+same_zone Day Night e = cc
+same_zone Night Day e = cc
+same_zone Night Night e = refl
 
 same_flow : (y z : Flow) → flow_word y ≡ flow_word z → y ≡ z
-same_flow y z e = sym (flow_told y) ∙ ap (λ bs. flow_by (first bs)) e ∙ flow_told z
+same_flow Consumed Consumed e = refl
+same_flow Consumed Delivered e = cc
+same_flow Delivered Consumed e = cc
+same_flow Delivered Delivered e = refl
 
+-- a kind is told by the first byte of its word
 abbrev kind_by : ℕ → Kind
 kind_by c =
-    cond (eqb c 82) kinds.Reading
-    (cond (eqb c 83) kinds.Change (cond (eqb c 67) kinds.Correction (cond (eqb c 80) kinds.Payment (cond (eqb c 73) kinds.Issue kinds.Year))))
+    if c == 82 then kinds.Reading else if c == 83 then kinds.Change else if c == 67 then kinds.Correction else
+    if c == 80 then kinds.Payment else if c == 73 then kinds.Issue else kinds.Year
 
-kind_told : (kind : Kind) → kind_by (first (kind_word kind)) ≡ kind
+kind_told : (kind : Kind) → kind_by (get_or (kind_word kind) 0 0) ≡ kind
 kind_told kinds.Reading = refl
 kind_told kinds.Change = refl
 kind_told kinds.Correction = refl
@@ -56,7 +46,7 @@ kind_told kinds.Issue = refl
 kind_told kinds.Year = refl
 
 pub same_kind : (y z : Kind) → kind_word y ≡ kind_word z → y ≡ z
-same_kind y z e = sym (kind_told y) ∙ ap (λ bs. kind_by (first bs)) e ∙ kind_told z
+same_kind y z e = sym (kind_told y) ∙ ap (λ bs. kind_by (get_or bs 0 0)) e ∙ kind_told z
 
 -- ---- numbers
 

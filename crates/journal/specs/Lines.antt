@@ -40,10 +40,17 @@ kind_of Year = kinds.Year
 
 -- the six fields after the kind
 abbrev pub others : Line → List (List ℕ)
-others (Enter (Reading register day value)) = decimal register.place ∷ zone_word register.zone ∷ flow_word register.flow ∷ decimal value ∷ codes "-" ∷ day_text day ∷ []
-others (Enter (Change register day value start)) = decimal register.place ∷ zone_word register.zone ∷ flow_word register.flow ∷ decimal value ∷ decimal start ∷ day_text day ∷ []
-others (Enter (Correction register quantity)) = decimal register.place ∷ zone_word register.zone ∷ flow_word register.flow ∷ signed_decimal quantity ∷ codes "-" ∷ codes "-" ∷ []
-others (Enter (Payment place drams)) = decimal place ∷ codes "-" ∷ codes "-" ∷ decimal drams ∷ codes "-" ∷ codes "-" ∷ []
+others (Enter (Reading register day value)) =
+    decimal register.place ∷ zone_word register.zone ∷ flow_word register.flow
+    ∷ decimal value ∷ codes "-" ∷ day_text day ∷ []
+others (Enter (Change register day value start)) =
+    decimal register.place ∷ zone_word register.zone ∷ flow_word register.flow
+    ∷ decimal value ∷ decimal start ∷ day_text day ∷ []
+others (Enter (Correction register quantity)) =
+    decimal register.place ∷ zone_word register.zone ∷ flow_word register.flow
+    ∷ signed_decimal quantity ∷ codes "-" ∷ codes "-" ∷ []
+others (Enter (Payment place drams)) =
+    decimal place ∷ codes "-" ∷ codes "-" ∷ decimal drams ∷ codes "-" ∷ codes "-" ∷ []
 others Issue = replicate 6 (codes "-")
 others Year = replicate 6 (codes "-")
 

@@ -39,7 +39,7 @@ fn line_in(row: Row<'_>) -> Result<Line, WrongField>
     line_as(kind, row)
 }
 
-// The reading of a row.
+// The reading of a row. Each kind has a reader of its own, since its columns are types.
 fn reading_in(row: Row<'_>) -> Result<Line, WrongField>
     ensures { ReadAs kinds.Reading (others_of row.entry) result }
 {

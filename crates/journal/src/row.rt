@@ -50,6 +50,7 @@ impl<'a> Row<'a> {
     fn of_body(body: &'a [u8], line: usize) -> Option<Row<'a>>
         ensures { SevenParts body.now line result }
     {
+        // Each cut names its field: a loop over seven would fill an array only to take it apart here.
         let (kind, rest) = cut(body)?;
         let (member, rest) = cut(rest)?;
         let (zone, rest) = cut(rest)?;
