@@ -1,12 +1,12 @@
 -- What the digits of a text tell of the date or the month that it spells.
-use Rattle.std.proofs.Common.{◌≡◌, ℕ, ◌+◌, ◌/◌, ◌%◌, ◌<◌, ◌≤◌, List, ◌∷◌, ◌++◌, length, get_or, take, drop, Some, None, Option, sym, ap, ◌∙◌, ap₂, arith}
+use Rattle.std.proofs.Common.{◌≡◌, ℕ, ◌+◌, ◌/◌, ◌%◌, ◌<◌, ◌≤◌, List, length, get_or, Some, None, Option, sym, ap, ◌∙◌, arith}
 use Rattle.calendar.proofs.Named.{dated, early_enough, same_date}
 use Rattle.calendar.specs.Dates.{date_of_day, day_of_date}
 use Rattle.calendar.specs.declared.date.Date.{Date}
-use Rattle.fields.proofs.Spelling.{same_date_text, same_four, same_two, short_date}
+use Rattle.fields.proofs.Spelling.{same_date_text, short_date}
 use Rattle.fields.specs.Digits.{FourDigits, TwoDigits}
 use Rattle.fields.specs.Reads.{Reads}
-use Rattle.fields.specs.Texts.{MonthIn, Spellable, date_text, day_text, four, month_text, two}
+use Rattle.fields.specs.Texts.{Spellable, date_text, day_text}
 use Rattle.std.proofs.lemmas.Slice.Eq.{text_from_reads}
 
 -- two digits and the number that they write
@@ -26,24 +26,6 @@ module _ (bs : List ℕ) (year : ℕ) (hyphen : get_or bs 4 0 ≡ 45) (years : F
       let d = two_written _ _ day days in
       let text = date_text (record { year = year; month = month; day = day }) in
       ((y.0, m.0, d.0), text_from_reads bs text long (y.1, (y.2, (y.3, (y.4, (hyphen, (m.1, (m.2, (second, (d.1, (d.2, tt)))))))))))
-
-  month_spelled : length bs ≡ 7 → (year < 10000) × (month < 100) × (bs ≡ four year ++ (45 ∷ two month))
-  month_spelled long =
-      let y = four_written _ _ _ _ year years in
-      let m = two_written _ _ month months in
-      (y.0, m.0, text_from_reads bs (four year ++ (45 ∷ two month)) long (y.1, (y.2, (y.3, (y.4, (hyphen, (m.1, (m.2, tt))))))))
-
-  pub month_read : length bs ≡ 7 → (r : Option ℕ) → MonthIn year month r → Reads (λ m. m ≤ 1199) month_text bs r
-  month_read long None none = λ m early is.
-      let spelled = month_spelled long in
-      let same = sym spelled.2 ∙ is in
-      let y = same_four year (2000 + m / 12) spelled.0 (omega arith) (ap (take 4) same) in
-      let p = same_two month (m % 12 + 1) spelled.1 (omega arith) (ap (drop 5) same) in
-      none (omega arith, omega arith, omega arith, omega arith)
-  month_read long (Some m) told =
-      let y : year ≡ 2000 + m / 12 = omega arith in
-      let p : month ≡ m % 12 + 1 = omega arith in
-      (omega arith, (month_spelled long).2 ∙ ap₂ (λ (a b : ℕ). four a ++ (45 ∷ two b)) y p)
 
 -- a text that spells no date spells no day
 pub no_day : (bs : List ℕ) → Reads Spellable date_text bs None → Reads (λ x. x ≤ 36524) day_text bs None

@@ -1,14 +1,8 @@
 use Rattle.std.proofs.Common.{◌≤◌, ◌∙◌, sym, subst}
 use Rattle.fields.proofs.Forming.{date_form, day_spelled, no_value}
-use Rattle.fields.proofs.Looks.{no_date}
 use Rattle.fields.specs.Columns.{DateForm}
 use Rattle.fields.specs.Texts.{day_text}
 use Rattle.fields.proofs.column.DatedColumn.of.Goals as goal
-
-pub returns-in_default : goal.returns-in_default
-returns-in_default c =
-    no_value DateForm (λ d. d ≤ 36524) day_text (λ x. x.0) _ (day_spelled _)
-    (λ day early. no_date _ _ c.token_of.ensures c.in_default.not-Date day)
 
 pub returns-in_err-day : goal.returns-in_err-day
 returns-in_err-day c =
