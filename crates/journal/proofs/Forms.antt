@@ -1,5 +1,5 @@
 -- What the reader answers of a line's text.
-use Rattle.std.proofs.Common.{◌≡◌, ℕ, zero, suc, ◌≤◌, List, [], ◌∷◌, length, is_ok, Ok, Err, decimal, Decides, Result, sym, refl, ap, ◌∙◌, subst, inl, inr, ⊎_elim, arith}
+use Rattle.std.proofs.Common.{◌≡◌, ℕ, zero, suc, ◌≤◌, List, [], ◌∷◌, length, ◌↔◌, IsOk, Ok, Err, decimal, Result, sym, refl, ap, ◌∙◌, subst, inl, inr, ⊎_elim, arith}
 use Rattle.fields.proofs.Forming.{date_form, number_form, signed_form}
 use Rattle.fields.proofs.Lacking.{decimal_lacks, lacks_by_test, signed_lacks}
 use Rattle.fields.proofs.Parting.{one_parting}
@@ -50,12 +50,12 @@ missing_lacks : Lacks 44 (45 ∷ [])
 missing_lacks = lacks_by_test 44 (45 ∷ []) refl
 
 others_lack : (line : Line) → Writable line → AllByRecursion (Lacks 44) (others line)
-others_lack (Enter (Reading place zone flow day value)) fine =
-    (number_lacks place fine.0, (zone_lacks zone, (flow_lacks flow, (number_lacks value fine.1, (missing_lacks, (day_text_commaless day, tt))))))
-others_lack (Enter (Change place zone flow day value start)) fine =
-    (number_lacks place fine.0, (zone_lacks zone, (flow_lacks flow, (number_lacks value fine.1, (number_lacks start fine.2, (day_text_commaless day, tt))))))
-others_lack (Enter (Correction place zone flow quantity)) fine =
-    (number_lacks place fine.0, (zone_lacks zone, (flow_lacks flow, (signed_lacks 44 quantity (λ digit. omega arith) (λ minus. omega arith) (omega (arith, fine.1)), (missing_lacks, (missing_lacks, tt))))))
+others_lack (Enter (Reading register day value)) fine =
+    (number_lacks register.place fine.0, (zone_lacks register.zone, (flow_lacks register.flow, (number_lacks value fine.1, (missing_lacks, (day_text_commaless day, tt))))))
+others_lack (Enter (Change register day value start)) fine =
+    (number_lacks register.place fine.0, (zone_lacks register.zone, (flow_lacks register.flow, (number_lacks value fine.1, (number_lacks start fine.2, (day_text_commaless day, tt))))))
+others_lack (Enter (Correction register quantity)) fine =
+    (number_lacks register.place fine.0, (zone_lacks register.zone, (flow_lacks register.flow, (signed_lacks 44 quantity (λ digit. omega arith) (λ minus. omega arith) (omega (arith, fine.1)), (missing_lacks, (missing_lacks, tt))))))
 others_lack (Enter (Payment place drams)) fine =
     (number_lacks place fine.0, (missing_lacks, (missing_lacks, (number_lacks drams fine.1, (missing_lacks, (missing_lacks, tt))))))
 others_lack Issue fine = (missing_lacks, (missing_lacks, (missing_lacks, (missing_lacks, (missing_lacks, (missing_lacks, tt))))))
@@ -64,21 +64,21 @@ others_lack Year fine = (missing_lacks, (missing_lacks, (missing_lacks, (missing
 -- ---- each field of a line has its form
 
 others_right : (line : Line) → Writable line → AllRight (forms (kind_of line)) (others line)
-others_right (Enter (Reading place zone flow day value)) fine =
-    (number_form place fine.0, ((zone, refl), ((flow, refl), (number_form value fine.1, (refl, (date_form day fine.2, tt))))))
-others_right (Enter (Change place zone flow day value start)) fine =
-    (number_form place fine.0, ((zone, refl), ((flow, refl), (number_form value fine.1, (number_form start fine.2, (date_form day fine.3, tt))))))
-others_right (Enter (Correction place zone flow quantity)) fine =
-    (number_form place fine.0, ((zone, refl), ((flow, refl), (signed_form quantity fine.1, (refl, (refl, tt))))))
+others_right (Enter (Reading register day value)) fine =
+    (number_form register.place fine.0, ((register.zone, refl), ((register.flow, refl), (number_form value fine.1, (refl, (date_form day fine.2, tt))))))
+others_right (Enter (Change register day value start)) fine =
+    (number_form register.place fine.0, ((register.zone, refl), ((register.flow, refl), (number_form value fine.1, (number_form start fine.2, (date_form day fine.3, tt))))))
+others_right (Enter (Correction register quantity)) fine =
+    (number_form register.place fine.0, ((register.zone, refl), ((register.flow, refl), (signed_form quantity fine.1, (refl, (refl, tt))))))
 others_right (Enter (Payment place drams)) fine =
     (number_form place fine.0, (refl, (refl, (number_form drams fine.1, (refl, (refl, tt))))))
 others_right Issue fine = (refl, (refl, (refl, (refl, (refl, (refl, tt))))))
 others_right Year fine = (refl, (refl, (refl, (refl, (refl, (refl, tt))))))
 
 six : (line : Line) → length (others line) ≡ 6
-six (Enter (Reading place zone flow day value)) = refl
-six (Enter (Change place zone flow day value start)) = refl
-six (Enter (Correction place zone flow quantity)) = refl
+six (Enter (Reading register day value)) = refl
+six (Enter (Change register day value start)) = refl
+six (Enter (Correction register quantity)) = refl
 six (Enter (Payment place drams)) = refl
 six Issue = refl
 six Year = refl
@@ -132,7 +132,7 @@ not_refused bs (refusals.Form field) has wrong =
 -- ---- the answers of the reader
 
 -- a line is read exactly where the bytes have the form of one
-pub read_exactly : (bs : List ℕ) (r : Result Line ReadRefusal) → LineRead bs r → Decides (is_ok r) (HasForm bs)
+pub read_exactly : (bs : List ℕ) (r : Result Line ReadRefusal) → LineRead bs r → IsOk r ↔ HasForm bs
 read_exactly bs (Ok line) is = ((λ read. has_form line bs is.0 is.1), λ has. refl)
 read_exactly bs (Err refusal) is = ((λ read. absurd (false≢true read)), λ has. absurd (not_refused bs refusal has is))
 

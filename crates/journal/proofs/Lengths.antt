@@ -23,20 +23,20 @@ flow_short Delivered = omega arith
 
 -- the lines of a journal
 pub short_line : (line : Line) → Writable line → length (line_text line) ≤ 64
-short_line (Enter (Reading place zone flow day value)) fine =
+short_line (Enter (Reading register day value)) fine =
     le_trans
-    (line_within (codes "READ") (decimal place ∷ zone_word zone ∷ flow_word flow ∷ decimal value ∷ codes "-" ∷ day_text day ∷ []) 4 (9 ∷ 5 ∷ 4 ∷ 9 ∷ 1 ∷ 10 ∷ [])
-    (omega arith, (digits_9 place fine.0, (zone_short zone, (flow_short flow, (digits_9 value fine.1, (omega arith, (omega arith, tt))))))))
+    (line_within (codes "READ") (decimal register.place ∷ zone_word register.zone ∷ flow_word register.flow ∷ decimal value ∷ codes "-" ∷ day_text day ∷ []) 4 (9 ∷ 5 ∷ 4 ∷ 9 ∷ 1 ∷ 10 ∷ [])
+    (omega arith, (digits_9 register.place fine.0, (zone_short register.zone, (flow_short register.flow, (digits_9 value fine.1, (omega arith, (omega arith, tt))))))))
     (lit≤ tt)
-short_line (Enter (Change place zone flow day value start)) fine =
+short_line (Enter (Change register day value start)) fine =
     le_trans
-    (line_within (codes "SWAP") (decimal place ∷ zone_word zone ∷ flow_word flow ∷ decimal value ∷ decimal start ∷ day_text day ∷ []) 4 (9 ∷ 5 ∷ 4 ∷ 9 ∷ 9 ∷ 10 ∷ [])
-    (omega arith, (digits_9 place fine.0, (zone_short zone, (flow_short flow, (digits_9 value fine.1, (digits_9 start fine.2, (omega arith, tt))))))))
+    (line_within (codes "SWAP") (decimal register.place ∷ zone_word register.zone ∷ flow_word register.flow ∷ decimal value ∷ decimal start ∷ day_text day ∷ []) 4 (9 ∷ 5 ∷ 4 ∷ 9 ∷ 9 ∷ 10 ∷ [])
+    (omega arith, (digits_9 register.place fine.0, (zone_short register.zone, (flow_short register.flow, (digits_9 value fine.1, (digits_9 start fine.2, (omega arith, tt))))))))
     (lit≤ tt)
-short_line (Enter (Correction place zone flow quantity)) fine =
+short_line (Enter (Correction register quantity)) fine =
     le_trans
-    (line_within (codes "CORR") (decimal place ∷ zone_word zone ∷ flow_word flow ∷ signed_decimal quantity ∷ codes "-" ∷ codes "-" ∷ []) 4 (9 ∷ 5 ∷ 4 ∷ 10 ∷ 1 ∷ 1 ∷ [])
-    (omega arith, (digits_9 place fine.0, (zone_short zone, (flow_short flow, (signed_9 quantity fine.1, (omega arith, (omega arith, tt))))))))
+    (line_within (codes "CORR") (decimal register.place ∷ zone_word register.zone ∷ flow_word register.flow ∷ signed_decimal quantity ∷ codes "-" ∷ codes "-" ∷ []) 4 (9 ∷ 5 ∷ 4 ∷ 10 ∷ 1 ∷ 1 ∷ [])
+    (omega arith, (digits_9 register.place fine.0, (zone_short register.zone, (flow_short register.flow, (signed_9 quantity fine.1, (omega arith, (omega arith, tt))))))))
     (lit≤ tt)
 short_line (Enter (Payment place drams)) fine =
     le_trans

@@ -1,4 +1,3 @@
-pub mod Ended
 pub mod Forms
 pub mod Lengths
 pub mod RoundTrips

@@ -31,19 +31,26 @@ pub record HasForm (bs : List ℕ) : Type 0 where
   pub fields : Fields (kind_word kind ∷ rest) bs
 
 abbrev pub kind_of : Line → Kind
-kind_of (Enter (Reading place zone flow day value)) = kinds.Reading
-kind_of (Enter (Change place zone flow day value start)) = kinds.Change
-kind_of (Enter (Correction place zone flow quantity)) = kinds.Correction
+kind_of (Enter (Reading register day value)) = kinds.Reading
+kind_of (Enter (Change register day value start)) = kinds.Change
+kind_of (Enter (Correction register quantity)) = kinds.Correction
 kind_of (Enter (Payment place drams)) = kinds.Payment
 kind_of Issue = kinds.Issue
 kind_of Year = kinds.Year
 
 -- the six fields after the kind
 abbrev pub others : Line → List (List ℕ)
-others (Enter (Reading place zone flow day value)) = decimal place ∷ zone_word zone ∷ flow_word flow ∷ decimal value ∷ codes "-" ∷ day_text day ∷ []
-others (Enter (Change place zone flow day value start)) = decimal place ∷ zone_word zone ∷ flow_word flow ∷ decimal value ∷ decimal start ∷ day_text day ∷ []
-others (Enter (Correction place zone flow quantity)) = decimal place ∷ zone_word zone ∷ flow_word flow ∷ signed_decimal quantity ∷ codes "-" ∷ codes "-" ∷ []
-others (Enter (Payment place drams)) = decimal place ∷ codes "-" ∷ codes "-" ∷ decimal drams ∷ codes "-" ∷ codes "-" ∷ []
+others (Enter (Reading register day value)) =
+    decimal register.place ∷ zone_word register.zone ∷ flow_word register.flow
+    ∷ decimal value ∷ codes "-" ∷ day_text day ∷ []
+others (Enter (Change register day value start)) =
+    decimal register.place ∷ zone_word register.zone ∷ flow_word register.flow
+    ∷ decimal value ∷ decimal start ∷ day_text day ∷ []
+others (Enter (Correction register quantity)) =
+    decimal register.place ∷ zone_word register.zone ∷ flow_word register.flow
+    ∷ signed_decimal quantity ∷ codes "-" ∷ codes "-" ∷ []
+others (Enter (Payment place drams)) =
+    decimal place ∷ codes "-" ∷ codes "-" ∷ decimal drams ∷ codes "-" ∷ codes "-" ∷ []
 others Issue = replicate 6 (codes "-")
 others Year = replicate 6 (codes "-")
 
@@ -57,9 +64,9 @@ Short n = n ≤ 999999999
 
 -- the numbers of the line have up to nine digits, and its day is one of the calendar
 abbrev pub Writable : Line → Type 0
-Writable (Enter (Reading place zone flow day value)) = Short place × Short value × (day ≤ 36524)
-Writable (Enter (Change place zone flow day value start)) = Short place × Short value × Short start × (day ≤ 36524)
-Writable (Enter (Correction place zone flow quantity)) = Short place × Short (unsigned_abs quantity)
+Writable (Enter (Reading register day value)) = Short register.place × Short value × (day ≤ 36524)
+Writable (Enter (Change register day value start)) = Short register.place × Short value × Short start × (day ≤ 36524)
+Writable (Enter (Correction register quantity)) = Short register.place × Short (unsigned_abs quantity)
 Writable (Enter (Payment place drams)) = Short place × Short drams
 Writable Issue = Unit {0}
 Writable Year = Unit {0}

@@ -16,16 +16,6 @@ others_of row =
 abbrev pub texts_of : Row → List (List ℕ)
 texts_of row = row.kind.part.now ∷ others_of row
 
--- the fields are counted from 1
-pub record Counted (row : Row) : Type 0 where
-  pub kind_first : row.kind.number ≡ 1
-  pub member_second : row.member.number ≡ 2
-  pub zone_third : row.zone.number ≡ 3
-  pub flow_fourth : row.flow.number ≡ 4
-  pub value_fifth : row.value.number ≡ 5
-  pub second_sixth : row.second.number ≡ 6
-  pub date_seventh : row.date.number ≡ 7
-
 -- the fields are told with the number of their line
 pub record OnLine (line : ℕ) (row : Row) : Type 0 where
   pub kind_on : row.kind.line ≡ line
@@ -45,7 +35,7 @@ pub record Fields (texts : List (List ℕ)) (bs : List ℕ) : Type 0 where
 -- the fields of the line, or none where it has not its line feed or not seven fields
 abbrev pub SevenFields : List ℕ → ℕ → Option Row → Type 0
 SevenFields bs line r =
-    MatchOption r ((texts : List (List ℕ)) → Fields texts bs → ⊥) (λ row. Fields (texts_of row) bs × Counted row × OnLine line row)
+    MatchOption r ((texts : List (List ℕ)) → Fields texts bs → ⊥) (λ row. Fields (texts_of row) bs × OnLine line row)
 
 -- the number of the first field after the kind that has not its form
 abbrev pub WrongOf : List Form → List (List ℕ) → ℕ → Type 0

@@ -1,12 +1,11 @@
 -- What the steps of reading a line answer: for the contracts of private functions alone.
 use Rattle.std.specs.Borrow.{Bor}
-use Rattle.std.specs.Prelude.{◌≡◌, ℕ, List, ◌∷◌, length, Ok, Err, Option, Result, MatchOption}
-use Rattle.fields.specs.Columns.{Form}
+use Rattle.std.specs.Prelude.{◌≡◌, ℕ, List, [], ◌∷◌, length, Ok, Err, Option, Result, MatchOption, MatchResult}
+use Rattle.fields.specs.Columns.{Spelling}
 use Rattle.fields.specs.Partings.{Parted}
 use Rattle.fields.specs.declared.field.WrongField.{WrongField}
-use Rattle.std.specs.Result as results
 use Rattle.journal.specs.Lines.{Writable, WrongAt, forms, kind_of, others}
-use Rattle.journal.specs.Rows.{Counted, OnLine, WrongOf, others_of, texts_of}
+use Rattle.journal.specs.Rows.{OnLine, WrongOf, others_of, texts_of}
 use Rattle.journal.specs.Words.{kind_word}
 use Rattle.journal.specs.declared.kind.Kind.{Kind}
 use Rattle.journal.specs.declared.kind.Kind.TheVariants as kinds
@@ -17,21 +16,23 @@ use Rattle.journal.specs.declared.row.Row.{Row}
 -- the bytes are the row, or none where they are not seven texts parted by commas
 abbrev pub SevenParts : List ℕ → ℕ → Option Row → Type 0
 SevenParts bs line r =
-    MatchOption r ((texts : List (List ℕ)) → length texts ≡ 7 → Parted texts bs → ⊥) (λ row. Parted (texts_of row) bs × Counted row × OnLine line row)
+    MatchOption r ((texts : List (List ℕ)) → length texts ≡ 7 → Parted texts bs → ⊥) (λ row. Parted (texts_of row) bs × OnLine line row)
 
 -- the bytes are the text of this fine value
-abbrev pub Spells : {X : Type 0} → (X → Type 0) → (X → List ℕ) → X → Bor (List ℕ) → Type 0
-Spells fine text x part = fine x × (part.now ≡ text x)
+abbrev pub Spells : {X : Type 0} → Spelling X → X → Bor (List ℕ) → Type 0
+Spells s x part = s.fine x × (part.now ≡ s.text x)
 
 -- what the reader of the six columns after the kind answers: a value that each field spells, or the number of the first
 -- field that has not its form
-abbrev pub ColumnsRead : {A B C D E F : Type 0} → Row → List Form → (A → Bor (List ℕ) → Type 0) → (B → Bor (List ℕ) → Type 0) → (C → Bor (List ℕ) → Type 0) → (D → Bor (List ℕ) → Type 0) → (E → Bor (List ℕ) → Type 0) → (F → Bor (List ℕ) → Type 0) → Result (A × B × C × D × E × F) WrongField → Type 0
-ColumnsRead row forms member zone flow value second date r =
-    results.MatchResult r
+abbrev pub ColumnsRead : {A B C D E F : Type 0} → Row → Spelling A → Spelling B → Spelling C → Spelling D → Spelling E → Spelling F
+    → Result (A × B × C × D × E × F) WrongField → Type 0
+ColumnsRead row member zone flow value second date r =
+    MatchResult r
     (λ v.
-    member v.0 row.member.part × zone v.1 row.zone.part × flow v.2 row.flow.part
-    × value v.3 row.value.part × second v.4 row.second.part × date v.5 row.date.part)
-    (λ wrong. WrongOf forms (others_of row) wrong.number)
+    Spells member v.0 row.member.part × Spells zone v.1 row.zone.part × Spells flow v.2 row.flow.part
+    × Spells value v.3 row.value.part × Spells second v.4 row.second.part × Spells date v.5 row.date.part)
+    (λ wrong.
+    WrongOf (member.form ∷ zone.form ∷ flow.form ∷ value.form ∷ second.form ∷ date.form ∷ []) (others_of row) wrong.number)
 
 -- what a reader of the fields after the kind answers
 abbrev pub ReadAs : Kind → List (List ℕ) → Result Line WrongField → Type 0

@@ -24,14 +24,18 @@ kind_word Payment = codes "PAY"
 kind_word Issue = codes "ISSUE"
 kind_word Year = codes "YEAR"
 
+-- the word of some value
+abbrev pub WordForm : {X : Type 0} → (X → List ℕ) → Form
+WordForm {X} word_of bs = (value : X) × (bs ≡ word_of value)
+
 -- the word of a zone
 abbrev pub ZoneForm : Form
-ZoneForm bs = (zone : Zone) × (bs ≡ zone_word zone)
+ZoneForm = WordForm zone_word
 
 -- the word of a flow
 abbrev pub FlowForm : Form
-FlowForm bs = (flow : Flow) × (bs ≡ flow_word flow)
+FlowForm = WordForm flow_word
 
 -- the word of a kind of line
 abbrev pub KindForm : Form
-KindForm bs = (kind : Kind) × (bs ≡ kind_word kind)
+KindForm = WordForm kind_word

@@ -1,23 +1,23 @@
 //! Reads a line of a journal.
-ghost use Rattle.std.specs.Prelude.{◌≡◌, is_ok, Decides, Result};
+ghost use Rattle.std.specs.Prelude.{◌≡◌, ◌↔◌, IsOk, Result};
 ghost use Rattle.journal.specs.Lines.{HasForm, LineRead};
-ghost use Rattle.journal.specs.Rows.{Counted, others_of, texts_of};
+ghost use Rattle.journal.specs.Rows.{others_of, texts_of};
 ghost use Rattle.journal.specs.Steps.{ReadAs, ReadBare, RowRead};
 ghost use Rattle.journal.specs.declared.kind.Kind.TheVariants as kinds;
 
 use crate::kind::Kind;
-use crate::row::{Row, columns, fields_of};
-use crate::words::{FlowWord, ZoneWord};
+use crate::row::Row;
+use crate::words::Word;
 use fields::column::{Column, Dated, Missing, Number, Signed};
 use fields::field::WrongField;
-use ledger::entry::Entry;
+use ledger::entry::{Entry, MemberRegister};
 use lines::line::Line;
 use lines::refusal::ReadRefusal;
 
 /// Reads a line of a journal, with its line feed as its last byte, or tells why it is none; its fields are told with the number `line`, which does not change the answer.
 pub fn read_line(text: &[u8], line: usize) -> Result<Line, ReadRefusal>
     ensures read { LineRead text.now result }
-    ensures exactly { Decides (is_ok result) (HasForm text.now) }
+    ensures exactly { IsOk result ↔ HasForm text.now }
     ensures only { (other : Result Line ReadRefusal) → LineRead text.now other → other ≡ result }
 {
     line_of(text, line)
@@ -27,119 +27,79 @@ pub fn read_line(text: &[u8], line: usize) -> Result<Line, ReadRefusal>
 fn line_of(text: &[u8], line: usize) -> Result<Line, ReadRefusal>
     ensures { LineRead text.now result }
 {
-    let Some(row) = fields_of(text, line) else {
-        return Err(ReadRefusal::Fields);
-    };
-    let said = line_in(row)?;
-    Ok(said)
+    let row = Row::of(text, line).ok_or(ReadRefusal::Fields)?;
+    Ok(line_in(row)?)
 }
 
 // What a row says.
 fn line_in(row: Row<'_>) -> Result<Line, WrongField>
-    requires { Counted row }
     ensures { RowRead (texts_of row.entry) result }
 {
-    let kind = Kind::read(row.kind)?;
+    let Word(kind) = Word::read(row.kind)?;
     line_as(kind, row)
 }
 
-// The reading of a row.
+// The reading of a row. Each kind has a reader of its own, since its columns are types.
 fn reading_in(row: Row<'_>) -> Result<Line, WrongField>
-    requires { Counted row }
     ensures { ReadAs kinds.Reading (others_of row.entry) result }
 {
-    let (place, zone, flow, value, Missing, day) = columns::<
-        Number,
-        ZoneWord,
-        FlowWord,
-        Number,
-        Missing,
-        Dated,
-    >(row)?;
+    let (Number(place), Word(zone), Word(flow), Number(value), Missing, Dated(day)) =
+        row.columns()?;
+    let place = place as usize;
     Ok(Line::Enter(Entry::Reading {
-        place: place.0 as usize,
-        zone: zone.0,
-        flow: flow.0,
-        day: day.0,
-        value: value.0,
+        register: MemberRegister { place, zone, flow },
+        day,
+        value,
     }))
 }
 
 // The meter change of a row.
 fn change_in(row: Row<'_>) -> Result<Line, WrongField>
-    requires { Counted row }
     ensures { ReadAs kinds.Change (others_of row.entry) result }
 {
-    let (place, zone, flow, value, start, day) = columns::<
-        Number,
-        ZoneWord,
-        FlowWord,
-        Number,
-        Number,
-        Dated,
-    >(row)?;
+    let (Number(place), Word(zone), Word(flow), Number(value), Number(start), Dated(day)) =
+        row.columns()?;
+    let place = place as usize;
     Ok(Line::Enter(Entry::Change {
-        place: place.0 as usize,
-        zone: zone.0,
-        flow: flow.0,
-        day: day.0,
-        value: value.0,
-        start: start.0,
+        register: MemberRegister { place, zone, flow },
+        day,
+        value,
+        start,
     }))
 }
 
 // The correction of a row.
 fn correction_in(row: Row<'_>) -> Result<Line, WrongField>
-    requires { Counted row }
     ensures { ReadAs kinds.Correction (others_of row.entry) result }
 {
-    let (place, zone, flow, quantity, Missing, Missing) = columns::<
-        Number,
-        ZoneWord,
-        FlowWord,
-        Signed,
-        Missing,
-        Missing,
-    >(row)?;
+    let (Number(place), Word(zone), Word(flow), Signed(quantity), Missing, Missing) =
+        row.columns()?;
+    let place = place as usize;
     Ok(Line::Enter(Entry::Correction {
-        place: place.0 as usize,
-        zone: zone.0,
-        flow: flow.0,
-        quantity: quantity.0,
+        register: MemberRegister { place, zone, flow },
+        quantity,
     }))
 }
 
 // The payment of a row.
 fn payment_in(row: Row<'_>) -> Result<Line, WrongField>
-    requires { Counted row }
     ensures { ReadAs kinds.Payment (others_of row.entry) result }
 {
-    let (place, Missing, Missing, drams, Missing, Missing) = columns::<
-        Number,
-        Missing,
-        Missing,
-        Number,
-        Missing,
-        Missing,
-    >(row)?;
-    Ok(Line::Enter(Entry::Payment {
-        place: place.0 as usize,
-        drams: drams.0,
-    }))
+    let (Number(place), Missing, Missing, Number(drams), Missing, Missing) = row.columns()?;
+    let place = place as usize;
+    Ok(Line::Enter(Entry::Payment { place, drams }))
 }
 
 // The line itself, where no field after the kind is filled.
 fn bare_line(line: Line, row: Row<'_>) -> Result<Line, WrongField>
-    requires { Counted row }
     ensures { ReadBare line (others_of row.entry) result }
 {
-    columns::<Missing, Missing, Missing, Missing, Missing, Missing>(row)?;
+    let (Missing, Missing, Missing, Missing, Missing, Missing) = row.columns()?;
     Ok(line)
 }
 
 // What a row of this kind says.
 fn line_as(kind: Kind, row: Row<'_>) -> Result<Line, WrongField>
-    requires { Counted row }
     ensures { ReadAs kind (others_of row.entry) result }
 {
     match kind {

@@ -1,7 +1,5 @@
 //! The fields of a line.
-ghost use Rattle.std.specs.Prelude.{[], ◌∷◌};
-ghost use Rattle.journal.specs.Rows.{Counted, SevenFields};
-ghost use Rattle.journal.specs.Steps.{ColumnsRead, SevenParts, Spells};
+ghost use Rattle.std.specs.Prelude.{◌≡◌};
 
 use fields::column::Column;
 use fields::field::{Field, WrongField};
@@ -24,54 +22,68 @@ pub struct Row<'a> {
     pub second: Field<'a>,
     /// The date.
     pub date: Field<'a>,
+    // The fields are counted from 1.
+    pub ghost kind_first: { kind.number ≡ 1 },
+    pub ghost member_second: { member.number ≡ 2 },
+    pub ghost zone_third: { zone.number ≡ 3 },
+    pub ghost flow_fourth: { flow.number ≡ 4 },
+    pub ghost value_fifth: { value.number ≡ 5 },
+    pub ghost second_sixth: { second.number ≡ 6 },
+    pub ghost date_seventh: { date.number ≡ 7 },
 }
 
-/// The fields of a line, told with this number of the line; none where it has not its line feed or not seven fields.
-pub fn fields_of(text: &[u8], line: usize) -> Option<Row<'_>>
-    ensures { SevenFields text.now line result }
-{
-    let [body @ .., LINE_FEED] = text else {
-        return None;
-    };
-    row_of(body, line)
-}
+impl<'a> Row<'a> {
+    ghost use Rattle.journal.specs.Rows.{SevenFields};
+    ghost use Rattle.journal.specs.Steps.{ColumnsRead, SevenParts};
 
-// The fields of a line without its line feed, or none where it has not seven.
-fn row_of(body: &[u8], line: usize) -> Option<Row<'_>>
-    ensures { SevenParts body.now line result }
-{
-    let (kind, rest) = cut(body)?;
-    let (member, rest) = cut(rest)?;
-    let (zone, rest) = cut(rest)?;
-    let (flow, rest) = cut(rest)?;
-    let (value, rest) = cut(rest)?;
-    let (second, date) = cut(rest)?;
-    if cut(date).is_some() {
-        return None;
+    /// The fields of a line, told with this number of the line; none where it has not its line feed or not seven fields.
+    pub fn of(text: &'a [u8], line: usize) -> Option<Row<'a>>
+        ensures { SevenFields text.now line result }
+    {
+        let [body @ .., LINE_FEED] = text else {
+            return None;
+        };
+        Row::of_body(body, line)
     }
-    Some(Row {
-        kind: Field::new(line, 1, kind),
-        member: Field::new(line, 2, member),
-        zone: Field::new(line, 3, zone),
-        flow: Field::new(line, 4, flow),
-        value: Field::new(line, 5, value),
-        second: Field::new(line, 6, second),
-        date: Field::new(line, 7, date),
-    })
-}
 
-// The values of the six columns after the kind, or the number of the first field that has not its form.
-pub(crate) fn columns<A: Column, B: Column, C: Column, D: Column, E: Column, F: Column>(
-    row: Row<'_>,
-) -> Result<(A, B, C, D, E, F), WrongField>
-    requires { Counted row }
-    ensures { ColumnsRead row.entry (A.Column.form ∷ B.Column.form ∷ C.Column.form ∷ D.Column.form ∷ E.Column.form ∷ F.Column.form ∷ []) (Spells A.Column.fine A.Column.text) (Spells B.Column.fine B.Column.text) (Spells C.Column.fine C.Column.text) (Spells D.Column.fine D.Column.text) (Spells E.Column.fine E.Column.text) (Spells F.Column.fine F.Column.text) result }
-{
-    let member = A::read(row.member)?;
-    let zone = B::read(row.zone)?;
-    let flow = C::read(row.flow)?;
-    let value = D::read(row.value)?;
-    let second = E::read(row.second)?;
-    let date = F::read(row.date)?;
-    Ok((member, zone, flow, value, second, date))
+    // The fields of a line without its line feed, or none where it has not seven.
+    fn of_body(body: &'a [u8], line: usize) -> Option<Row<'a>>
+        ensures { SevenParts body.now line result }
+    {
+        // Each cut names its field: a loop over seven would fill an array only to take it apart here.
+        let (kind, rest) = cut(body)?;
+        let (member, rest) = cut(rest)?;
+        let (zone, rest) = cut(rest)?;
+        let (flow, rest) = cut(rest)?;
+        let (value, rest) = cut(rest)?;
+        let (second, date) = cut(rest)?;
+        if cut(date).is_some() {
+            return None;
+        }
+        Some(Row {
+            kind: Field::new(line, 1, kind),
+            member: Field::new(line, 2, member),
+            zone: Field::new(line, 3, zone),
+            flow: Field::new(line, 4, flow),
+            value: Field::new(line, 5, value),
+            second: Field::new(line, 6, second),
+            date: Field::new(line, 7, date),
+        })
+    }
+
+    // The values of the six columns after the kind, or the number of the first field that has not its form.
+    pub(crate) fn columns<A: Column, B: Column, C: Column, D: Column, E: Column, F: Column>(
+        self,
+    ) -> Result<(A, B, C, D, E, F), WrongField>
+        ensures { ColumnsRead self.entry A.Column.spelling B.Column.spelling C.Column.spelling
+            D.Column.spelling E.Column.spelling F.Column.spelling result }
+    {
+        let member = A::read(self.member)?;
+        let zone = B::read(self.zone)?;
+        let flow = C::read(self.flow)?;
+        let value = D::read(self.value)?;
+        let second = E::read(self.second)?;
+        let date = F::read(self.date)?;
+        Ok((member, zone, flow, value, second, date))
+    }
 }

@@ -1,102 +1,119 @@
 //! The words of a journal, read and told.
-ghost use Rattle.std.specs.Prelude.{◌≡◌};
-ghost use Rattle.journal.specs.Words.{FlowForm, KindForm, ZoneForm, flow_word, kind_word, zone_word};
+ghost use Rattle.std.specs.Prelude.{◌≡◌, ℕ, List, Contains};
+ghost use Rattle.fields.specs.Reads.{Reads};
+ghost use Rattle.fields.specs.Tokens.{WordLike};
+ghost use Rattle.std.proofs.Common.{rules};
+ghost use Rattle.journal.specs.Words.{WordForm, flow_word, kind_word, zone_word};
 
 use crate::kind::Kind;
 use fields::column::Column;
-use fields::field::{Field, WrongField};
+use fields::token::{Token, token_of};
 use ledger::zone::{Flow, Zone};
 
-/// A zone by its word.
+/// What is told by a word.
+pub trait Worded: Copy + 'static {
+    // The word of a value.
+    ghost word_of: { Self → List ℕ };
+
+    /// Every value.
+    fn all() -> &'static [Self]
+        ensures { (value : Self) → Contains result.now value };
+
+    /// The word of the value.
+    fn word(self) -> &'static [u8]
+        ensures { result.now ≡ word_of self };
+
+    // No word looks like a number or a date.
+    ghost looks: { (value : Self) → WordLike (word_of value) };
+
+    /// The value with this word, or none where no value has it.
+    final fn of_word(word: &[u8]) -> Option<Self>
+        ensures { Reads (λ _. Unit {0}) word_of word.now result }
+    {
+        Self::all()
+            .iter()
+            .copied()
+            .find(|value| value.word() == word)
+    }
+}
+
+impl Worded for Zone {
+    ghost word_of = { zone_word };
+
+    ghost looks = { Prim.search rules };
+
+    fn all() -> &'static [Zone] {
+        &[Zone::Day, Zone::Night]
+    }
+
+    fn word(self) -> &'static [u8] {
+        match self {
+            Zone::Day => b"DAY",
+            Zone::Night => b"NIGHT",
+        }
+    }
+}
+
+impl Worded for Flow {
+    ghost word_of = { flow_word };
+
+    ghost looks = { Prim.search rules };
+
+    fn all() -> &'static [Flow] {
+        &[Flow::Consumed, Flow::Delivered]
+    }
+
+    fn word(self) -> &'static [u8] {
+        match self {
+            Flow::Consumed => b"USE",
+            Flow::Delivered => b"GIVE",
+        }
+    }
+}
+
+impl Worded for Kind {
+    ghost word_of = { kind_word };
+
+    ghost looks = { Prim.search rules };
+
+    fn all() -> &'static [Kind] {
+        &[
+            Kind::Reading,
+            Kind::Change,
+            Kind::Correction,
+            Kind::Payment,
+            Kind::Issue,
+            Kind::Year,
+        ]
+    }
+
+    fn word(self) -> &'static [u8] {
+        match self {
+            Kind::Reading => b"READ",
+            Kind::Change => b"SWAP",
+            Kind::Correction => b"CORR",
+            Kind::Payment => b"PAY",
+            Kind::Issue => b"ISSUE",
+            Kind::Year => b"YEAR",
+        }
+    }
+}
+
+/// A value by its word.
 #[derive(Clone, Copy)]
-pub struct ZoneWord(pub Zone);
+pub struct Word<W>(pub W);
 
-impl Column for ZoneWord {
-    ghost form = { ZoneForm };
+impl<W: Worded> Column for Word<W> {
+    ghost spelling = { record {
+      form = WordForm W.word_of;
+      fine = λ _. Unit {0};
+      text = λ word. W.word_of word.0;
+    } };
 
-    ghost fine = { λ _. Unit {0} };
-
-    ghost text = { λ word. zone_word word.0 };
-
-    fn read(field: Field<'_>) -> Result<ZoneWord, WrongField> {
-        match field.word()? {
-            b"DAY" => Ok(ZoneWord(Zone::Day)),
-            b"NIGHT" => Ok(ZoneWord(Zone::Night)),
-            _ => Err(field.wrong()),
+    fn of(part: &[u8]) -> Option<Word<W>> {
+        match token_of(part) {
+            Token::Word(word) => W::of_word(word).map(Word),
+            _ => None,
         }
-    }
-}
-
-/// A flow by its word.
-#[derive(Clone, Copy)]
-pub struct FlowWord(pub Flow);
-
-impl Column for FlowWord {
-    ghost form = { FlowForm };
-
-    ghost fine = { λ _. Unit {0} };
-
-    ghost text = { λ word. flow_word word.0 };
-
-    fn read(field: Field<'_>) -> Result<FlowWord, WrongField> {
-        match field.word()? {
-            b"USE" => Ok(FlowWord(Flow::Consumed)),
-            b"GIVE" => Ok(FlowWord(Flow::Delivered)),
-            _ => Err(field.wrong()),
-        }
-    }
-}
-
-impl Column for Kind {
-    ghost form = { KindForm };
-
-    ghost fine = { λ _. Unit {0} };
-
-    ghost text = { kind_word };
-
-    fn read(field: Field<'_>) -> Result<Kind, WrongField> {
-        match field.word()? {
-            b"READ" => Ok(Kind::Reading),
-            b"SWAP" => Ok(Kind::Change),
-            b"CORR" => Ok(Kind::Correction),
-            b"PAY" => Ok(Kind::Payment),
-            b"ISSUE" => Ok(Kind::Issue),
-            b"YEAR" => Ok(Kind::Year),
-            _ => Err(field.wrong()),
-        }
-    }
-}
-
-// The word of a zone.
-pub(crate) fn zone_word(zone: Zone) -> &'static [u8]
-    ensures { result.now ≡ zone_word zone }
-{
-    match zone {
-        Zone::Day => b"DAY",
-        Zone::Night => b"NIGHT",
-    }
-}
-
-// The word of a flow.
-pub(crate) fn flow_word(flow: Flow) -> &'static [u8]
-    ensures { result.now ≡ flow_word flow }
-{
-    match flow {
-        Flow::Consumed => b"USE",
-        Flow::Delivered => b"GIVE",
-    }
-}
-
-// The word of a kind of line.
-pub(crate) fn kind_word(kind: Kind) -> &'static [u8]
-    ensures { result.now ≡ kind_word kind }
-{
-    match kind {
-        Kind::Reading => b"READ",
-        Kind::Change => b"SWAP",
-        Kind::Correction => b"CORR",
-        Kind::Payment => b"PAY",
-        Kind::Issue => b"ISSUE",
-        Kind::Year => b"YEAR",
     }
 }

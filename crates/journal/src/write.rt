@@ -1,21 +1,21 @@
 //! Writes a line of a journal.
-ghost use Rattle.std.specs.Prelude.{◌≤◌, ◌∷◌, length, Decides};
-ghost use Rattle.cells.specs.Cells.{Written};
-ghost use Rattle.fields.specs.Rows.{line_of};
+ghost use Rattle.std.specs.Prelude.{◌≡◌, ◌≤◌, ◌↔◌, ◌∷◌, decimal, length, map, IsTrue};
+ghost use Rattle.calendar.specs.Dates.{date_of_day};
+ghost use Rattle.cells.specs.Cells.{cell_text};
+ghost use Rattle.cells.specs.declared.rows.Cell.TheVariants as cells;
 ghost use Rattle.ledger.specs.declared.entry.Entry.TheVariants as entries;
-ghost use Rattle.journal.specs.Lines.{Writable, line_text, others};
-ghost use Rattle.journal.specs.Words.{kind_word};
+ghost use Rattle.journal.specs.Lines.{Writable, kind_of, line_text, others};
+ghost use Rattle.journal.specs.Words.{flow_word, kind_word, zone_word};
 ghost use Rattle.journal.specs.Writing.{LineWritten, ReadThenWritten, WrittenThenRead};
 ghost use Rattle.lines.specs.declared.line.Line.TheVariants as lines;
 
 use crate::kind::Kind;
-use crate::words::{flow_word, kind_word, zone_word};
+use crate::words::Worded;
 use calendar::date::date_of;
 use calendar::days::{Day, LAST_DAY};
 use cells::rows::{Cell, write_row};
 use fields::column::MOST_NUMBER;
-use ledger::entry::Entry;
-use ledger::zone::{Flow, Zone};
+use ledger::entry::{Entry, MemberRegister};
 use lines::line::Line;
 use lines::refusal::WriteRefusal;
 
@@ -39,23 +39,16 @@ fn put_tested(line: Line, out: &mut [u8]) -> Result<usize, WriteRefusal>
     if !is_writable(line) {
         return Err(WriteRefusal::Form);
     }
-    if !has_room(out) {
+    if out.len() < LINE_ROOM {
         return Err(WriteRefusal::Room);
     }
     // No such line is longer than that, so the writer of the row does not refuse.
-    put_line(line, out).ok_or(WriteRefusal::Room)
-}
-
-// Whether the slice has the room that any line fits into.
-fn has_room(out: &[u8]) -> bool
-    ensures { Decides result (64 ≤ length out.now) }
-{
-    out.len() >= LINE_ROOM
+    write_row(&cells_of(line), out, 0).ok_or(WriteRefusal::Room)
 }
 
 // Whether the numbers of the line have up to nine digits, and its day is one of the calendar.
 fn is_writable(line: Line) -> bool
-    ensures { Decides result (Writable line) }
+    ensures { IsTrue result ↔ Writable line }
 {
     match line {
         Line::Enter(entry) => is_entry_writable(entry),
@@ -65,192 +58,140 @@ fn is_writable(line: Line) -> bool
 
 // The same of an entry.
 fn is_entry_writable(entry: Entry) -> bool
-    ensures { Decides result (Writable (lines.Enter entry)) }
+    ensures { IsTrue result ↔ Writable (lines.Enter entry) }
 {
     match entry {
         Entry::Reading {
-            place,
+            register,
             day,
             value,
-            ..
-        } => is_short(place as u64) && is_short(value as u64) && is_dated(day),
+        } => is_short(register.place as u64) && is_short(value as u64) && day <= LAST_DAY,
         Entry::Change {
-            place,
+            register,
             day,
             value,
             start,
-            ..
         } => {
-            is_short(place as u64)
+            is_short(register.place as u64)
                 && is_short(value as u64)
                 && is_short(start as u64)
-                && is_dated(day)
+                && day <= LAST_DAY
         }
-        Entry::Correction {
-            place,
-            quantity,
-            ..
-        } => is_short(place as u64) && is_short(quantity.unsigned_abs() as u64),
+        Entry::Correction { register, quantity } => {
+            is_short(register.place as u64) && is_short(quantity.unsigned_abs() as u64)
+        }
         Entry::Payment { place, drams } => is_short(place as u64) && is_short(drams as u64),
     }
 }
 
 // Whether a number has up to nine digits.
 fn is_short(n: u64) -> bool
-    ensures { Decides result (n ≤ 999999999) }
+    ensures { IsTrue result ↔ (n ≤ 999999999) }
 {
     n <= MOST_NUMBER as u64
 }
 
-// Whether a day is one of the calendar.
-fn is_dated(day: Day) -> bool
-    ensures { Decides result (day ≤ 36524) }
-{
-    day <= LAST_DAY
-}
-
-// Writes the line, or answers none where there is no room.
-fn put_line(line: Line, out: &mut [u8]) -> Option<usize>
+// The cells of a line, by its seven fields.
+fn cells_of(line: Line) -> [Cell<'static>; 7]
     requires { Writable line }
-    ensures { Written out.old 0 (line_text line) out.new result }
+    ensures { map cell_text result ≡ kind_word (kind_of line) ∷ others line }
 {
     match line {
-        Line::Enter(entry) => put_entry(entry, out),
-        Line::Issue => put_bare(Kind::Issue, out),
-        Line::Year => put_bare(Kind::Year, out),
+        Line::Enter(entry) => entry_cells(entry),
+        Line::Issue => bare_cells(Kind::Issue),
+        Line::Year => bare_cells(Kind::Year),
     }
 }
 
-// Writes an entry, or answers none where there is no room.
-fn put_entry(entry: Entry, out: &mut [u8]) -> Option<usize>
+// The same of an entry.
+fn entry_cells(entry: Entry) -> [Cell<'static>; 7]
     requires { Writable (lines.Enter entry) }
-    ensures { Written out.old 0 (line_text (lines.Enter entry)) out.new result }
+    ensures { let line = lines.Enter entry in
+        map cell_text result ≡ kind_word (kind_of line) ∷ others line }
 {
     match entry {
         Entry::Reading {
-            place,
-            zone,
-            flow,
+            register,
             day,
             value,
-        } => put_reading(place, zone, flow, value, day, out),
+        } => register_cells(
+            Kind::Reading,
+            register,
+            [Cell::Number(value as u64), Cell::Missing, date_cell(day)],
+        ),
         Entry::Change {
-            place,
-            zone,
-            flow,
+            register,
             day,
             value,
             start,
-        } => put_change(place, zone, flow, value, start, day, out),
-        Entry::Correction {
-            place,
-            zone,
-            flow,
-            quantity,
-        } => put_correction(place, zone, flow, quantity, out),
-        Entry::Payment { place, drams } => put_payment(place, drams, out),
+        } => register_cells(
+            Kind::Change,
+            register,
+            [
+                Cell::Number(value as u64),
+                Cell::Number(start as u64),
+                date_cell(day),
+            ],
+        ),
+        Entry::Correction { register, quantity } => register_cells(
+            Kind::Correction,
+            register,
+            [Cell::Signed(quantity as i64), Cell::Missing, Cell::Missing],
+        ),
+        Entry::Payment { place, drams } => payment_cells(place, drams),
     }
 }
 
-// Writes a meter reading, or answers none where there is no room.
-fn put_reading(
-    place: usize,
-    zone: Zone,
-    flow: Flow,
-    value: u32,
-    day: Day,
-    out: &mut [u8],
-) -> Option<usize>
-    requires { day ≤ 36524 }
-    ensures { Written out.old 0 (line_text (lines.Enter (entries.Reading place zone flow day value))) out.new result }
+// The cells of a line of this kind for a register, of which these are the last three.
+fn register_cells(
+    kind: Kind,
+    register: MemberRegister,
+    rest: [Cell<'static>; 3],
+) -> [Cell<'static>; 7]
+    ensures { map cell_text result ≡ kind_word kind ∷ decimal register.place
+        ∷ zone_word register.zone ∷ flow_word register.flow ∷ map cell_text rest.entry }
 {
-    let cells = [
-        Cell::Word(kind_word(Kind::Reading)),
-        Cell::Number(place as u64),
-        Cell::Word(zone_word(zone)),
-        Cell::Word(flow_word(flow)),
-        Cell::Number(value as u64),
-        Cell::Missing,
-        Cell::Date(date_of(day)?),
-    ];
-    write_row(&cells, out, 0)
+    let [value, second, date] = rest;
+    [
+        Cell::Word(kind.word()),
+        Cell::Number(register.place as u64),
+        Cell::Word(register.zone.word()),
+        Cell::Word(register.flow.word()),
+        value,
+        second,
+        date,
+    ]
 }
 
-// Writes a meter change, or answers none where there is no room.
-fn put_change(
-    place: usize,
-    zone: Zone,
-    flow: Flow,
-    value: u32,
-    start: u32,
-    day: Day,
-    out: &mut [u8],
-) -> Option<usize>
-    requires { day ≤ 36524 }
-    ensures { Written out.old 0 (line_text (lines.Enter (entries.Change place zone flow day value start))) out.new result }
+// The cells of a payment.
+fn payment_cells(place: usize, drams: u32) -> [Cell<'static>; 7]
+    ensures { let line = lines.Enter (entries.Payment place drams) in
+        map cell_text result ≡ kind_word (kind_of line) ∷ others line }
 {
-    let cells = [
-        Cell::Word(kind_word(Kind::Change)),
-        Cell::Number(place as u64),
-        Cell::Word(zone_word(zone)),
-        Cell::Word(flow_word(flow)),
-        Cell::Number(value as u64),
-        Cell::Number(start as u64),
-        Cell::Date(date_of(day)?),
-    ];
-    write_row(&cells, out, 0)
-}
-
-// Writes a correction, or answers none where there is no room.
-fn put_correction(
-    place: usize,
-    zone: Zone,
-    flow: Flow,
-    quantity: i32,
-    out: &mut [u8],
-) -> Option<usize>
-    ensures { Written out.old 0 (line_text (lines.Enter (entries.Correction place zone flow quantity))) out.new result }
-{
-    let cells = [
-        Cell::Word(kind_word(Kind::Correction)),
-        Cell::Number(place as u64),
-        Cell::Word(zone_word(zone)),
-        Cell::Word(flow_word(flow)),
-        Cell::Signed(quantity as i64),
-        Cell::Missing,
-        Cell::Missing,
-    ];
-    write_row(&cells, out, 0)
-}
-
-// Writes a payment, or answers none where there is no room.
-fn put_payment(place: usize, drams: u32, out: &mut [u8]) -> Option<usize>
-    ensures { Written out.old 0 (line_text (lines.Enter (entries.Payment place drams))) out.new result }
-{
-    let cells = [
-        Cell::Word(kind_word(Kind::Payment)),
+    [
+        Cell::Word(Kind::Payment.word()),
         Cell::Number(place as u64),
         Cell::Missing,
         Cell::Missing,
         Cell::Number(drams as u64),
         Cell::Missing,
         Cell::Missing,
-    ];
-    write_row(&cells, out, 0)
+    ]
 }
 
-// Writes a line of which no field after the kind is filled, or answers none where there is no room.
-fn put_bare(kind: Kind, out: &mut [u8]) -> Option<usize>
-    ensures { Written out.old 0 (line_of (kind_word kind ∷ others lines.Issue)) out.new result }
+// The cells of a line of which no field after the kind is filled.
+fn bare_cells(kind: Kind) -> [Cell<'static>; 7]
+    ensures { map cell_text result ≡ kind_word kind ∷ others lines.Issue }
 {
-    let cells = [
-        Cell::Word(kind_word(kind)),
-        Cell::Missing,
-        Cell::Missing,
-        Cell::Missing,
-        Cell::Missing,
-        Cell::Missing,
-        Cell::Missing,
-    ];
-    write_row(&cells, out, 0)
+    let mut cells = [Cell::Missing; 7];
+    cells[0] = Cell::Word(kind.word());
+    cells
+}
+
+// The cell of a day's date.
+fn date_cell(day: Day) -> Cell<'static>
+    requires { day ≤ 36524 }
+    ensures { result ≡ cells.Date (date_of_day day) }
+{
+    Cell::Date(date_of(day).unwrap())
 }

@@ -2,7 +2,7 @@
 use crate::line_cases::LINES;
 use fields::token::Token;
 use journal::read::read_line;
-use journal::row::fields_of;
+use journal::row::Row;
 use lines::refusal::ReadRefusal;
 use std::test::Fail;
 
@@ -147,7 +147,7 @@ fn first_wrong_fields(rt: HostRuntime) {
 
 #[test]
 fn fields_are_told_with_line_and_number(rt: HostRuntime) -> Result<(), Fail> {
-    let row = fields_of(b"READ,-5,NOON,,007,-,2024-13-99\n", 9).ok_or("no fields")?;
+    let row = Row::of(b"READ,-5,NOON,,007,-,2024-13-99\n", 9).ok_or("no fields")?;
     assert_eq!(rt; (row.kind.line, row.kind.number), (9, 1));
     assert_eq!(rt; (row.member.line, row.member.number), (9, 2));
     assert_eq!(rt; (row.zone.line, row.zone.number), (9, 3));
@@ -160,7 +160,7 @@ fn fields_are_told_with_line_and_number(rt: HostRuntime) -> Result<(), Fail> {
 
 #[test]
 fn fields_have_tokens_by_their_look(rt: HostRuntime) -> Result<(), Fail> {
-    let row = fields_of(b"READ,-5,NOON,,007,-,2024-13-99\n", 9).ok_or("no fields")?;
+    let row = Row::of(b"READ,-5,NOON,,007,-,2024-13-99\n", 9).ok_or("no fields")?;
     assert!(rt; matches!(row.kind.token(), Token::Word(b"READ")));
     assert!(rt; matches!(row.member.token(), Token::Number(b"-5")));
     assert!(rt; matches!(row.zone.token(), Token::Word(b"NOON")));

@@ -1,7 +1,7 @@
 //! What is written of a line, and what is refused.
 use crate::line_cases::LINES;
 use journal::write::write_line;
-use ledger::entry::Entry;
+use ledger::entry::{Entry, MemberRegister};
 use ledger::zone::{Flow, Zone};
 use lines::line::Line;
 use lines::refusal::WriteRefusal;
@@ -39,88 +39,112 @@ fn a_slice_has_64_bytes(rt: HostRuntime) {
 
 const REFUSED: [Entry; 14] = [
     Entry::Reading {
-        place: 1_000_000_000,
-        zone: Zone::Day,
-        flow: Flow::Consumed,
+        register: MemberRegister {
+            place: 1_000_000_000,
+            zone: Zone::Day,
+            flow: Flow::Consumed,
+        },
         day: 0,
         value: 0,
     },
     Entry::Reading {
-        place: 0,
-        zone: Zone::Day,
-        flow: Flow::Consumed,
+        register: MemberRegister {
+            place: 0,
+            zone: Zone::Day,
+            flow: Flow::Consumed,
+        },
         day: 36_525,
         value: 0,
     },
     Entry::Reading {
-        place: 0,
-        zone: Zone::Day,
-        flow: Flow::Consumed,
+        register: MemberRegister {
+            place: 0,
+            zone: Zone::Day,
+            flow: Flow::Consumed,
+        },
         day: 0,
         value: 1_000_000_000,
     },
     Entry::Change {
-        place: 0,
-        zone: Zone::Night,
-        flow: Flow::Delivered,
+        register: MemberRegister {
+            place: 0,
+            zone: Zone::Night,
+            flow: Flow::Delivered,
+        },
         day: 0,
         value: 0,
         start: 1_000_000_000,
     },
     Entry::Change {
-        place: 0,
-        zone: Zone::Night,
-        flow: Flow::Delivered,
+        register: MemberRegister {
+            place: 0,
+            zone: Zone::Night,
+            flow: Flow::Delivered,
+        },
         day: u32::MAX,
         value: 0,
         start: 0,
     },
     Entry::Correction {
-        place: 0,
-        zone: Zone::Day,
-        flow: Flow::Delivered,
+        register: MemberRegister {
+            place: 0,
+            zone: Zone::Day,
+            flow: Flow::Delivered,
+        },
         quantity: 1_000_000_000,
     },
     Entry::Correction {
-        place: 0,
-        zone: Zone::Day,
-        flow: Flow::Delivered,
+        register: MemberRegister {
+            place: 0,
+            zone: Zone::Day,
+            flow: Flow::Delivered,
+        },
         quantity: i32::MIN,
     },
     Entry::Change {
-        place: 1_000_000_000,
-        zone: Zone::Night,
-        flow: Flow::Delivered,
+        register: MemberRegister {
+            place: 1_000_000_000,
+            zone: Zone::Night,
+            flow: Flow::Delivered,
+        },
         day: 0,
         value: 0,
         start: 0,
     },
     Entry::Change {
-        place: 0,
-        zone: Zone::Night,
-        flow: Flow::Delivered,
+        register: MemberRegister {
+            place: 0,
+            zone: Zone::Night,
+            flow: Flow::Delivered,
+        },
         day: 0,
         value: 1_000_000_000,
         start: 0,
     },
     Entry::Change {
-        place: 0,
-        zone: Zone::Night,
-        flow: Flow::Delivered,
+        register: MemberRegister {
+            place: 0,
+            zone: Zone::Night,
+            flow: Flow::Delivered,
+        },
         day: 36_525,
         value: 0,
         start: 0,
     },
     Entry::Correction {
-        place: 1_000_000_000,
-        zone: Zone::Day,
-        flow: Flow::Delivered,
+        register: MemberRegister {
+            place: 1_000_000_000,
+            zone: Zone::Day,
+            flow: Flow::Delivered,
+        },
         quantity: 0,
     },
     Entry::Correction {
-        place: 0,
-        zone: Zone::Day,
-        flow: Flow::Delivered,
+        register: MemberRegister {
+            place: 0,
+            zone: Zone::Day,
+            flow: Flow::Delivered,
+        },
         quantity: -1_000_000_000,
     },
     Entry::Payment {

@@ -1,12 +1,6 @@
 use Rattle.std.proofs.Common.{arith}
 use Rattle.std.proofs.lemmas.Result.{err_from_is_err_and}
-use Rattle.journal.proofs.row.columns.Goals as goal
-
-pub returns-in_err-zone : goal.returns-in_err-zone
-returns-in_err-zone g c =
-    let wrong = c.in_err-zone.ensures in
-    let p = err_from_is_err_and c.from_residual-in_err-zone.result c.from_residual-in_err-zone.ensures.1 in
-    rw (p.1, p.2) (1, (omega (arith, wrong.0), (c.in_ok-member.ensures.0, wrong.1)))
+use Rattle.journal.proofs.row.Row.columns.Goals as goal
 
 pub returns-in_err-flow : goal.returns-in_err-flow
 returns-in_err-flow g c =
