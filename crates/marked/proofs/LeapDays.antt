@@ -16,7 +16,7 @@ use Rattle.lines.specs.declared.refusal.ReadRefusal.TheVariants.{Form}
 use Rattle.ledger.specs.declared.entry.Entry.TheVariants.{Reading}
 use Rattle.ledger.specs.declared.zone.Flow.TheVariants.{Delivered}
 use Rattle.ledger.specs.declared.zone.Zone.TheVariants.{Day}
-use Rattle.marked.specs.Cases.{ReadOrRefused}
+use Rattle.marked.specs.Cases.{ReadOrRefused, register}
 use Rattle.std.specs.Fmt.{digits}
 
 abbrev leap_day : (year : ℕ) → Date
@@ -34,7 +34,7 @@ nine_hundred = refl
 abbrev before : List ℕ → List (List ℕ)
 before date = codes "READ" ∷ codes "0" ∷ codes "DAY" ∷ codes "GIVE" ∷ codes "900" ∷ codes "-" ∷ date ∷ []
 
-in_2024 : LineRead (codes "READ,0,DAY,GIVE,900,-,2024-02-29\n") (Ok (Enter (Reading 0 Day Delivered 8825 900)))
+in_2024 : LineRead (codes "READ,0,DAY,GIVE,900,-,2024-02-29\n") (Ok (Enter (Reading register 8825 900)))
 in_2024 =
     let date : leap_day 2024 ≡ date_of_day 8825 = same_date (leap_day 2024) 8825 refl in (
       (omega arith, omega arith, omega arith),

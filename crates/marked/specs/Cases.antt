@@ -10,6 +10,7 @@ use Rattle.lines.specs.Refusals.{read_number}
 use Rattle.lines.specs.declared.line.Line.TheVariants.{Enter}
 use Rattle.lines.specs.declared.refusal.ReadRefusal.TheVariants.{Form}
 use Rattle.ledger.specs.declared.entry.Entry.TheVariants.{Reading}
+use Rattle.ledger.specs.declared.entry.MemberRegister.{MemberRegister}
 use Rattle.ledger.specs.declared.zone.Flow.TheVariants.{Delivered}
 use Rattle.ledger.specs.declared.zone.Zone.TheVariants.{Day}
 use Rattle.sharing.specs.Rules.{line_order, proportion, with_parts}
@@ -49,8 +50,12 @@ pub record Credited : Type 0 where
   pub ten_drams_less : account.debt +ℤ drams_of account (negsuc 999) ≡ negsuc 9
   pub the_fraction_kept : int_rem_euclid (owing account (negsuc 999)) (pos 100) ≡ pos 30
 
+-- the register of what the member at place 0 delivers by day
+abbrev pub register : MemberRegister
+register = record { place = 0; zone = Day; flow = Delivered }
+
 -- a reading on 29 February, which is a line in 2024 and wrong in its seventh field, by 26, in 2023
 pub record ReadOrRefused : Type 0 where
-  pub leap_day_of_2024 : LineRead (codes "READ,0,DAY,GIVE,900,-,2024-02-29\n") (Ok (Enter (Reading 0 Day Delivered 8825 900)))
+  pub leap_day_of_2024 : LineRead (codes "READ,0,DAY,GIVE,900,-,2024-02-29\n") (Ok (Enter (Reading register 8825 900)))
   pub no_leap_day_of_2023 : LineRead (codes "READ,0,DAY,GIVE,900,-,2023-02-29\n") (Err (Form 7))
   pub by_number : read_number (Form 7) ≡ 26
