@@ -10,4 +10,6 @@ mod parts;
 #[cfg(test)]
 mod reading;
 #[cfg(test)]
+mod slices;
+#[cfg(test)]
 mod writing;

@@ -1,4 +1,5 @@
 //! The lines of the output and of a fault, and the lines of names.
+use crate::slices::{BLANK, check_written};
 use ledger::bill::{Bill, YearEnd};
 use ledger::zone::ByZone;
 use lines::names::after_names;
@@ -7,8 +8,6 @@ use output::lines::{write_figures, write_names};
 use output::refusal::OutputRefusal;
 use std::process::Abort;
 use std::test::Fail;
-
-const BLANK: u8 = b'#';
 
 const BILLS: [(u16, usize, Bill, &[u8]); 3] = [
     (
@@ -65,12 +64,7 @@ fn check_bill(
 ) -> Result<(), Fail> {
     let mut out = [BLANK; 130];
     let end = write_figures(month, place, bill, &mut out, 1)?;
-    assert!(rt; 1 <= end && end <= 130);
-    assert_eq!(rt; out[0], BLANK);
-    assert!(rt; &out[1..end] == text);
-    for byte in &out[end..130] {
-        assert_eq!(rt; *byte, BLANK);
-    }
+    check_written(rt, &out, 1, end, text);
     check_room(rt, month, place, bill, end);
     Ok(())
 }
@@ -139,12 +133,7 @@ fn year_ends_are_written(rt: HostRuntime) -> Result<(), Fail> {
     for (month, place, year, text) in YEARS.iter().copied() {
         let mut out = [BLANK; 130];
         let end = write_figures(month, place, year, &mut out, 2)?;
-        assert!(rt; 2 <= end && end <= 130);
-        assert!(rt; &out[0..2] == b"##".as_slice());
-        assert!(rt; &out[2..end] == text);
-        for byte in &out[end..130] {
-            assert_eq!(rt; *byte, BLANK);
-        }
+        check_written(&rt, &out, 2, end, text);
         let mut short = [BLANK; 39];
         assert_eq!(rt;
             write_figures(month, place, year, &mut short, 2),
@@ -190,11 +179,7 @@ fn faults_are_written(rt: HostRuntime) -> Result<(), Fail> {
     for (fault, text) in FAULTS.iter().copied() {
         let mut out = [BLANK; 64];
         let end = write_fault(fault, &mut out)?;
-        assert!(rt; end <= 64);
-        assert!(rt; &out[0..end] == text);
-        for byte in &out[end..64] {
-            assert_eq!(rt; *byte, BLANK);
-        }
+        check_written(&rt, &out, 0, end, text);
         let mut short = [BLANK; 63];
         assert_eq!(rt; write_fault(fault, &mut short), Err(OutputRefusal::Room));
         assert!(rt; short == [BLANK; 63]);

@@ -1,4 +1,5 @@
 //! The parts of a text: line feeds, cuts, numbers, dates and months, and cells that are written.
+use crate::slices::{BLANK, check_written};
 use calendar::date::Date;
 use cells::rows::{Cell, write_cell};
 use fields::dates::{day, month};
@@ -97,14 +98,9 @@ const CELLS: [(Cell<'static>, &[u8]); 8] = [
 #[test]
 fn cells_are_written(rt: HostRuntime) -> Result<(), Fail> {
     for (cell, text) in CELLS.iter().copied() {
-        let mut out = [b'#'; 22];
+        let mut out = [BLANK; 22];
         let end = write_cell(cell, &mut out, 1).ok_or("no room")?;
-        assert!(rt; 1 <= end && end <= 22);
-        assert_eq!(rt; out[0], b'#');
-        assert!(rt; &out[1..end] == text);
-        for byte in &out[end..22] {
-            assert_eq!(rt; *byte, b'#');
-        }
+        check_written(&rt, &out, 1, end, text);
         assert_eq!(rt; write_cell(cell, &mut out, 22), None);
     }
     Ok(())

@@ -1,5 +1,6 @@
 //! What is written of a line, and what is refused.
 use crate::line_cases::LINES;
+use crate::slices::{BLANK, check_written};
 use journal::write::write_line;
 use ledger::entry::{Entry, MemberRegister};
 use ledger::zone::{Flow, Zone};
@@ -7,19 +8,12 @@ use lines::line::Line;
 use lines::refusal::WriteRefusal;
 use std::test::Fail;
 
-// What a slice holds before a writer is called.
-const BLANK: u8 = b'#';
-
 #[test]
 fn lines_are_written_as_they_are_read(rt: HostRuntime) -> Result<(), Fail> {
     for (text, line) in LINES.iter().copied() {
         let mut out = [BLANK; 64];
         let end = write_line(line, &mut out)?;
-        assert!(rt; end <= 64);
-        assert!(rt; &out[0..end] == text);
-        for byte in &out[end..64] {
-            assert_eq!(rt; *byte, BLANK);
-        }
+        check_written(&rt, &out, 0, end, text);
     }
     Ok(())
 }
