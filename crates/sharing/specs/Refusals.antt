@@ -1,5 +1,6 @@
 -- The refusals of this crate: the number of each, what it stands for, and what a call answers and leaves.
-use Rattle.std.specs.Prelude.{ℕ, Bool, false, cond, not, ◌||◌, List, [], ◌∷◌, ◌++◌, length, Ok, Err, codes, decimal, sum, Result, ◌==◌, nat_lt}
+use Rattle.std.specs.Prelude.{ℕ, Bool, cond, not, ◌||◌, List, [], ◌∷◌, ◌++◌, length, Ok, Err, codes, decimal, sum, Result, ◌==◌, nat_lt}
+use Rattle.std.specs.List.{list_any}
 use Rattle.sharing.specs.declared.refusal.ShareRefusal.{ShareRefusal}
 use Rattle.sharing.specs.declared.refusal.ShareRefusal.TheVariants.{Count, Size}
 use Rattle.sharing.specs.declared.parts_refusal.PartsRefusal.{PartsRefusal}
@@ -13,8 +14,7 @@ pub record Meaning (Test : Type 0) : Type 0 where
 
 -- a need is over 2,000,000 kWh
 abbrev pub some_over : List ℕ → Bool
-some_over [] = false
-some_over (need ∷ needs) = nat_lt 2000000 need || some_over needs
+some_over needs = list_any (nat_lt 2000000) needs
 
 -- the refusals of a rule's call, by its pool, its needs and the number of places for shares
 abbrev pub meaning : ShareRefusal → Meaning (ℕ → List ℕ → ℕ → Bool)

@@ -41,21 +41,14 @@ pub fn admit(pool: u64, needs: &[u64], places: usize) -> Result<(), ShareRefusal
 pub fn left_of(pool: u64, shares: &[u64]) -> u64
     ensures { result ≡ pool - sum shares.now }
 {
-    let mut left = pool;
-    for share in shares {
-        left = left.saturating_sub(*share);
-    }
-    left
+    shares
+        .iter()
+        .fold(pool, |left, share| left.saturating_sub(*share))
 }
 
 // Whether a need is over its limit.
 fn some_over(needs: &[u64]) -> bool
     ensures { result ≡ some_over needs.now }
 {
-    for need in needs {
-        if *need > MOST_NEED {
-            return true;
-        }
-    }
-    false
+    needs.iter().any(|need| *need > MOST_NEED)
 }

@@ -1,12 +1,14 @@
-use Rattle.std.proofs.Common.{sum, ap, arith}
-use Rattle.std.proofs.lemmas.List.{drop_all}
-use Rattle.std.proofs.lemmas.List.Sums.{sum_by-drop_more}
+use Rattle.std.proofs.Common.{◌≡◌, ℕ, ◌-◌, List, [], ◌∷◌, sum, fold, ◌∙◌, rules, arith}
+use Rattle.std.proofs.iter.runs.Made.{chains}
+use Rattle.sharing.specs.Fairness.{sum_cons}
 use Rattle.sharing.proofs.rule.left_of.Goals as goal
 
-pub loop-share-preserved : goal.loop-share-preserved
-loop-share-preserved c =
-    omega (arith, c.loop-share.invariant, c.saturating_sub-left.ensures, sum_by-drop_more (λ share. share) c.args.shares.now c.loop-share.share-index 0 c.loop-share-test.true)
+-- what is taken one by one is taken as a sum
+fold_less : (pool : ℕ) (shares : List ℕ) → fold (λ left share. left - share) pool shares ≡ pool - sum shares
+fold_less pool [] = omega arith
+fold_less pool (share ∷ shares) = omega (arith, fold_less (pool - share) shares, sum_cons share shares)
 
 pub returns : goal.returns
 returns c =
-    omega (arith, c.loop-share.invariant, ap sum (drop_all c.loop-share.share-index c.args.shares.now c.loop-share-test.false))
+    let in_turn : c.fold.result ≡ fold (λ left share. left - share) c.args.pool c.args.shares.now = search (rules, chains) in
+    in_turn ∙ fold_less c.args.pool c.args.shares.now
