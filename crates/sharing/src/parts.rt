@@ -80,12 +80,8 @@ impl<R: SharingRule> SharingRule for Parts<R> {
 fn within_whole(parts: &[u64]) -> bool
     ensures { result ≡ nat_le (sum parts.now) 10000 }
 {
-    let mut so_far = 0;
-    for part in parts {
-        if *part > WHOLE - so_far {
-            return false;
-        }
-        so_far += *part;
-    }
-    true
+    parts
+        .iter()
+        .fold(0u64, |sum, part| sum.saturating_add(*part))
+        <= WHOLE
 }

@@ -1,20 +1,17 @@
-use Rattle.std.proofs.Common.{◌+◌, sum, sym, ap, arith, take_all}
-use Rattle.std.proofs.lemmas.List.Sums.{sum_by_more, sum_by-take-le}
-use Rattle.std.proofs.lemmas.Bool.{le-leb, lt-leb}
+use Rattle.std.proofs.Common.{◌≡◌, ℕ, ◌+◌, ◌-◌, ◌^◌, min, nat_le, List, [], ◌∷◌, sum, fold, ◌∙◌, ap, rules, arith}
+use Rattle.std.proofs.iter.runs.Made.{chains}
+use Rattle.std.proofs.lemmas.Bool.Decides.{nat_tests}
+use Rattle.sharing.specs.Fairness.{sum_cons}
 use Rattle.sharing.proofs.parts.within_whole.Goals as goal
 
-pub returns-then-part-so_far : goal.returns-then-part-so_far
-returns-then-part-so_far c =
-    let ps = c.args.parts.now in
-    let i = c.loop-part.part-index in
-    sym (lt-leb _ 10000 (omega (arith, c.loop-part.invariant.0, c.loop-part.invariant.1, sum_by_more (λ p. p) ps i 0 c.loop-part-test.true, sum_by-take-le (λ p. p) ps (i + 1))))
-
-pub loop-part-preserved : goal.loop-part-preserved
-loop-part-preserved c =
-    let more = sum_by_more (λ p. p) c.args.parts.now c.loop-part.part-index 0 c.loop-part-test.true in
-    (omega (arith, c.loop-part.invariant.0, more), omega (arith, c.loop-part.invariant.1))
+-- a sum that stops at a limit is the smaller of the sum and the limit
+fold_capped : (limit before : ℕ) (parts : List ℕ) → fold (λ so_far part. min (so_far + part) limit) (min before limit) parts ≡ min (before + sum parts) limit
+fold_capped limit before [] = omega arith
+fold_capped limit before (part ∷ parts) =
+    ap (λ so_far. fold (λ s p. min (s + p) limit) so_far parts) (omega arith) ∙ fold_capped limit (before + part) parts ∙ omega (arith, sum_cons part parts)
 
 pub returns : goal.returns
 returns c =
-    let all = take_all c.loop-part.part-index c.args.parts.now c.loop-part-test.false in
-    sym (le-leb _ 10000 (omega (arith, c.loop-part.invariant.0, c.loop-part.invariant.1, ap sum all)))
+    let in_turn : c.fold.result ≡ fold (λ so_far part. min (so_far + part) (2 ^ 64 - 1)) 0 c.args.parts.now = search (rules, chains) in
+    let capped : c.fold.result ≡ min (sum c.args.parts.now) (2 ^ 64 - 1) = in_turn ∙ fold_capped (2 ^ 64 - 1) 0 c.args.parts.now ∙ omega arith in
+    grind (arith, nat_tests)
