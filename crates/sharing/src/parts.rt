@@ -7,6 +7,7 @@ ghost use Rattle.sharing.specs.Fairness.{with_parts_fair};
 use crate::parts_refusal::PartsRefusal;
 use crate::refusal::ShareRefusal;
 use crate::rule::{PLACES, SharingRule, admit};
+use arrayvec::ArrayVec;
 
 /// The whole pool in ten-thousandths.
 pub const WHOLE: u64 = 10_000;
@@ -62,13 +63,13 @@ impl<R: SharingRule> SharingRule for Parts<R> {
     fn share(&self, pool: u64, needs: &[u64], shares: &mut [u64]) -> Result<(), ShareRefusal> {
         admit(pool, needs, shares.len())?;
         let mut left = pool;
-        let mut rest = [0; PLACES];
+        let mut rest = ArrayVec::<u64, PLACES>::new();
         for (place, need) in needs.iter().enumerate() {
             let own = self.ahead_at(place, pool, *need);
             left -= own;
-            rest[place] = *need - own;
+            rest.push(*need - own);
         }
-        self.rule.share(left, &rest[0..needs.len()], shares)?;
+        self.rule.share(left, &rest, shares)?;
         for (place, need) in needs.iter().enumerate() {
             shares[place] += self.ahead_at(place, pool, *need);
         }

@@ -1,4 +1,4 @@
-use Rattle.std.proofs.Common.{◌≡◌, ℕ, ◌-◌, length, get_or, sum, refl, ap, ◌∙◌, ap₂, arith, length-set}
+use Rattle.std.proofs.Common.{◌≡◌, ℕ, ◌-◌, ◌++◌, length, get_or, sum, refl, ap, ◌∙◌, ap₂, arith, length-set}
 use Rattle.sharing.specs.Fair.{plus, less}
 use Rattle.sharing.specs.Refusals.{answer}
 use Rattle.sharing.specs.Rules.{reserved}
@@ -9,25 +9,24 @@ use Rattle.sharing.proofs.Writing.{begun_all}
 use Rattle.sharing.proofs.parts.PartsSharingRule.share.Goals as goal
 
 pub loop-place-init : goal.loop-place-init
-loop-place-init g c = (
-  refl,
-  reserved_in_pool c.args.pool c.args.self.now.parts c.args.needs.now c.args.self.now.whole,
-  refl,
-  refl,
-)
+loop-place-init g c =
+    let ns = c.args.needs.now in
+    let first = reserved c.args.pool c.args.self.now.parts ns in
+    let none = c.new-rest.ensures in
+    record {
+      count = ap length none;
+      fits = reserved_in_pool c.args.pool c.args.self.now.parts ns c.args.self.now.whole;
+      same = refl;
+      written = ap (λ l. l ++ less ns first) none;
+    }
 
 pub overflow_sub-left : goal.overflow_sub-left
 overflow_sub-left g c =
-    own_fits c.args.pool c.args.self.now.parts c.args.needs.now c.loop-place.place _ c.loop-place-test.true c.ahead_at-own.ensures _ c.loop-place.invariant.1
+    own_fits c.args.pool c.args.self.now.parts c.args.needs.now c.loop-place.place _ c.loop-place-test.true c.ahead_at-own.ensures _ c.loop-place.invariant.fits
 
 pub loop-place-preserved : goal.loop-place-preserved
 loop-place-preserved g c =
-    let ns = c.args.needs.now in
-    let inv = c.loop-place.invariant in
-    let fit = admitted c.args.pool ns (length c.args.shares.now) c.in_ok-admit.ensures in
-    let within = c.loop-place-test.true in
-    let more = aside_more c.args.pool c.args.self.now.parts ns c.loop-place.place c.ahead_at-own.result within c.ahead_at-own.ensures c.loop-place.left c.loop-place.rest _ _ (omega (arith, inv.0, fit.few)) inv.1 inv.2 inv.3 in
-    (length-set _ _ _ ∙ inv.0, more.0, more.1, more.2)
+    aside_more c.args.pool c.args.self.now.parts c.args.needs.now c.loop-place.place _ c.loop-place-test.true c.ahead_at-own.ensures _ _ _ _ _ c.loop-place.invariant c.push.ensures.items
 
 pub returns-in_err-share : goal.returns-in_err-share
 returns-in_err-share g c =
@@ -37,8 +36,8 @@ returns-in_err-share g c =
     let first = reserved pool ps ns in
     let done = c.loop-place-test.false in
     let inv = c.loop-place.invariant in
-    let left = aside_all pool ps ns c.loop-place.place done c.loop-place.left _ inv.2 in
-    let rest = rest_all pool ps ns c.loop-place.place done c.loop-place.rest _ c.loop-place.auto.place-end inv.3 in
+    let left = aside_all pool ps ns c.loop-place.place done c.loop-place.left _ inv.same in
+    let rest = c.deref.ensures.0 ∙ rest_all pool ps ns c.loop-place.place done _ _ inv.written in
     let places = length c.args.shares.now in
     let fit = rest_admitted pool ns first places (admitted pool ns places c.in_ok-admit.ensures) in
     let never = c.in_err-share.ensures.answers ∙ ap₂ (λ p l. answer p l places) left rest ∙ admits _ _ places fit in
@@ -52,8 +51,8 @@ loop-place-2-init g c =
     let ns = c.args.needs.now in
     let done = c.loop-place-test.false in
     let inv = c.loop-place.invariant in
-    let left = aside_all pool ps ns c.loop-place.place done c.loop-place.left _ inv.2 in
-    let rest = rest_all pool ps ns c.loop-place.place done c.loop-place.rest _ c.loop-place.auto.place-end inv.3 in
+    let left = aside_all pool ps ns c.loop-place.place done c.loop-place.left _ inv.same in
+    let rest = c.deref.ensures.0 ∙ rest_all pool ps ns c.loop-place.place done _ _ inv.written in
     (c.in_ok-share.ensures.writes ∙ ap₂ (g.R.SharingRule.sharing c.args.self.now.rule) left rest, refl, refl)
 
 pub overflow_add-shares : goal.overflow_add-shares
