@@ -1,5 +1,5 @@
 -- The refusals of this crate: the number of each, what it stands for, and what a call answers and leaves.
-use Rattle.std.specs.Prelude.{ℕ, Bool, cond, not, ◌||◌, List, [], ◌∷◌, ◌++◌, length, Ok, Err, codes, decimal, sum, Result, ◌==◌, nat_lt}
+use Rattle.std.specs.Prelude.{ℕ, Bool, cond, not, ◌||◌, List, ◌++◌, length, Ok, Err, codes, decimal, sum, Result, ◌==◌, nat_lt}
 use Rattle.std.specs.List.{list_any}
 use Rattle.sharing.specs.declared.refusal.ShareRefusal.{ShareRefusal}
 use Rattle.sharing.specs.declared.refusal.ShareRefusal.TheVariants.{Count, Size}

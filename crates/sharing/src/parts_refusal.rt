@@ -35,8 +35,6 @@ impl fmt::Display for PartsRefusal {
     ghost output = { λ refusal. Some (told (parts_meaning refusal)) };
 
     fn fmt<W: fmt::Write>(&self, f: &mut fmt::Formatter<W>) -> fmt::Result {
-        let number = self.number();
-        let words = self.words();
-        write!(f, "{number}: {words}")
+        write!(f, "{}: {}", self.number(), self.words())
     }
 }

@@ -39,8 +39,6 @@ impl fmt::Display for ShareRefusal {
     ghost output = { λ refusal. Some (told (meaning refusal)) };
 
     fn fmt<W: fmt::Write>(&self, f: &mut fmt::Formatter<W>) -> fmt::Result {
-        let number = self.number();
-        let words = self.words();
-        write!(f, "{number}: {words}")
+        write!(f, "{}: {}", self.number(), self.words())
     }
 }

@@ -1,4 +1,4 @@
-use Rattle.std.proofs.Common.{◌≡◌, ℕ, ◌-◌, ◌++◌, length, get_or, sum, refl, ap, ◌∙◌, ap₂, arith, length-set}
+use Rattle.std.proofs.Common.{◌≡◌, ℕ, ◌-◌, ◌++◌, length, get_or, sum, refl, ap, ◌∙◌, ap₂, arith}
 use Rattle.sharing.specs.Fair.{plus, less}
 use Rattle.sharing.specs.Refusals.{answer}
 use Rattle.sharing.specs.Rules.{reserved}

@@ -1,4 +1,4 @@
-use Rattle.std.proofs.Common.{◌≡◌, ◌-◌, ◌≤◌, length, drop, sum}
+use Rattle.std.proofs.Common.{◌≡◌, ◌-◌, drop, sum}
 use Rattle.sharing.specs.Fair.{plus, less}
 use Rattle.sharing.specs.Rules.{reserved}
 use Rattle.sharing.proofs.Layers.{Aside}
