@@ -7,11 +7,6 @@ use Rattle.sharing.proofs.Admission.{Admitted}
 use Rattle.sharing.specs.Fairness.{sum_cons, length_less, get_or_less}
 use Rattle.sharing.proofs.Writing.{Begun, begun_more}
 
-pub get_or_le_sum : (xs : List ℕ) (k : ℕ) → get_or xs k 0 ≤ sum xs
-get_or_le_sum [] k = omega arith
-get_or_le_sum (x ∷ xs) zero = omega (arith, sum_cons x xs)
-get_or_le_sum (x ∷ xs) (suc k) = omega (arith, sum_cons x xs, get_or_le_sum xs k)
-
 -- what is set aside from a place on
 abbrev from : (pool : ℕ) (parts ns : List ℕ) (place : ℕ) → List ℕ
 from pool parts ns place = reserved pool (drop place parts) (drop place ns)
@@ -42,9 +37,6 @@ pub record Aside (pool : ℕ) (parts ns : List ℕ) (place left : ℕ) (rest : L
 module _ (pool : ℕ) (parts ns : List ℕ) (place own : ℕ) (within : place < length ns) (is : own ≡ ahead pool (get_or parts place 0) (get_or ns place 0)) where
   from_more : from pool parts ns place ≡ own ∷ from pool parts ns (place + 1)
   from_more = rw add-one (from_suc pool parts ns place within ∙ ap (λ x. x ∷ from pool parts ns (suc place)) (sym is))
-
-  pub own_fits : (left : ℕ) → sum (from pool parts ns place) ≤ left → own ≤ left
-  own_fits left fits = omega (arith, ap sum from_more, sum_cons own (from pool parts ns (place + 1)))
 
   -- one place more is set aside from the pool and from the needs
   pub aside_more : (left : ℕ) (rest next : List ℕ) (total : ℕ) (whole : List ℕ) → Aside pool parts ns place left rest total whole →
@@ -84,9 +76,6 @@ module _ (pool : ℕ) (parts ns : List ℕ) (place : ℕ) (done : length ns ≤ 
   pub rest_all : (rest whole : List ℕ) → rest ++ less (drop place ns) (from pool parts ns place) ≡ whole → rest ≡ whole
   rest_all rest whole written =
       sym (append-nil rest) ∙ ap (λ l. rest ++ l) (sym (ap (λ l. less l (from pool parts ns place)) (drop_all place ns done))) ∙ written
-
-  pub added_all : (below : List ℕ) → length below ≡ length ns → plus (from pool parts ns place) (drop place below) ≡ []
-  added_all below long = ap (λ first. plus first (drop place below)) from_all ∙ drop_all place below (omega arith)
 
 -- what is left of an admitted pool and its needs is admitted
 pub rest_admitted : (pool : ℕ) (needs first : List ℕ) (places : ℕ) → Admitted pool needs places → Admitted (pool - sum first) (less needs first) places
