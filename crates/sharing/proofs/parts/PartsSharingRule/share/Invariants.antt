@@ -16,7 +16,7 @@ invariant-loop-place-2 g l =
     let parts = l.self.parts in
     let to-come = reserved l.pool (drop l.place parts) (drop l.place l.needs) in
     let first = reserved l.pool parts l.needs in
-    let Given-below = l.initial.shares in
-    (Given-below ≡ g.R.SharingRule.sharing l.self.rule (l.pool - sum first) (less l.needs first))
-    × (drop l.place l.shares ≡ drop l.place Given-below)
-    × Begun l.shares l.place (plus to-come (drop l.place Given-below)) (plus first Given-below)
+    let below = l.initial.shares in
+    (below ≡ g.R.SharingRule.sharing l.self.rule (l.pool - sum first) (less l.needs first))
+    × (drop l.place l.shares ≡ drop l.place below)
+    × Begun l.shares l.place (plus to-come (drop l.place below)) (plus first below)
