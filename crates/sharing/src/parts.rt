@@ -1,5 +1,5 @@
 //! Parts, a layer over any rule.
-ghost use Rattle.std.specs.Prelude.{◌≡◌, ◌<◌, ◌≤◌, replicate, sum, nat_le, slice_index};
+ghost use Rattle.std.specs.Prelude.{◌≡◌, ◌<◌, ◌≤◌, ◌↔◌, IsTrue, replicate, sum, slice_index};
 ghost use Rattle.sharing.specs.Refusals.{parts_answer, written};
 ghost use Rattle.sharing.specs.Rules.{ahead, with_parts};
 ghost use Rattle.sharing.specs.Fairness.{with_parts_fair};
@@ -79,7 +79,7 @@ impl<R: SharingRule> SharingRule for Parts<R> {
 
 // Whether the parts add up to no more than the whole.
 fn within_whole(parts: &[u64]) -> bool
-    ensures { result ≡ nat_le (sum parts.now) 10000 }
+    ensures { IsTrue result ↔ (sum parts.now ≤ 10000) }
 {
     parts
         .iter()

@@ -52,5 +52,5 @@ fn portion_of(given: u64, all: u64, first: u64) -> u64
     requires first { first ≤ 64000000 }
     ensures { result ≡ portion given all first }
 {
-    if all == 0 { 0 } else { given * first / all }
+    (given * first).checked_div(all).unwrap_or(0)
 }
