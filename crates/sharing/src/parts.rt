@@ -58,7 +58,8 @@ impl<R> Parts<R> {
 impl<R: SharingRule> SharingRule for Parts<R> {
     ghost sharing = { λ layer. with_parts (R.SharingRule.sharing layer.rule) layer.parts };
 
-    ghost fair = { λ layer. with_parts_fair _ (R.SharingRule.fair layer.rule) layer.parts layer.whole };
+    ghost fair = { λ layer.
+        with_parts_fair _ (R.SharingRule.fair layer.rule) layer.parts layer.whole };
 
     fn share(&self, pool: u64, needs: &[u64], shares: &mut [u64]) -> Result<(), ShareRefusal> {
         admit(pool, needs, shares.len())?;
@@ -70,6 +71,7 @@ impl<R: SharingRule> SharingRule for Parts<R> {
             rest.push(*need - own);
         }
         self.rule.share(left, &rest, shares)?;
+        // By places: after `shares.iter_mut().zip(needs)` no proof knows what was written.
         for (place, need) in needs.iter().enumerate() {
             shares[place] += self.ahead_at(place, pool, *need);
         }

@@ -12,6 +12,7 @@ pub enum PartsRefusal {
 }
 
 impl PartsRefusal {
+    // By `match`, as in `ShareRefusal`.
     /// The refusal's number.
     pub fn number(self) -> u8
         ensures { result ≡ (parts_meaning self).number }
@@ -31,6 +32,7 @@ impl PartsRefusal {
     }
 }
 
+// Like that of `ShareRefusal`: no one `Display` can serve every type of a trait.
 impl fmt::Display for PartsRefusal {
     ghost output = { λ refusal. Some (told (parts_meaning refusal)) };
 

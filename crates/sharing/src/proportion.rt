@@ -19,6 +19,7 @@ impl SharingRule for Proportion {
         admit(pool, needs, shares.len())?;
         let all = sum_of(needs);
         let given = pool.min(all);
+        // By places: after `shares.iter_mut().zip(needs)` no proof knows what was written.
         let mut before = 0;
         for (place, need) in needs.iter().enumerate() {
             shares[place] = share_of(given, all, before, *need);

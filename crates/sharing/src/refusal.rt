@@ -14,6 +14,7 @@ pub enum ShareRefusal {
 }
 
 impl ShareRefusal {
+    // By `match`, and not as discriminants: the contract, not the compiler, refuses a wrong number.
     /// The refusal's number.
     pub fn number(self) -> u8
         ensures { result ≡ (meaning self).number }

@@ -21,7 +21,8 @@ pub trait SharingRule {
         ensures answers { result ≡ answer pool needs.now (length shares.old) }
         ensures writes { shares.new ≡ written result (sharing self.now pool needs.now) shares.old };
 
-    ghost fair: { (rule : Self) (pool : ℕ) (needs : List ℕ) → Fair pool needs (sharing rule pool needs) };
+    ghost fair: { (rule : Self) (pool : ℕ) (needs : List ℕ)
+        → Fair pool needs (sharing rule pool needs) };
 }
 
 /// The test of every rule's call: 7 and then 8, or done.
