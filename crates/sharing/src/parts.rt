@@ -1,12 +1,12 @@
 //! Parts, a layer over any rule.
-ghost use Rattle.std.specs.Prelude.{◌≡◌, ◌<◌, ◌≤◌, ◌↔◌, IsTrue, replicate, sum, slice_index};
+ghost use Rattle.std.specs.Prelude.{◌≡◌, ◌<◌, ◌≤◌, replicate, sum, slice_index};
 ghost use Rattle.sharing.specs.Refusals.{parts_answer, written};
 ghost use Rattle.sharing.specs.Rules.{ahead, with_parts};
 ghost use Rattle.sharing.specs.Fairness.{with_parts_fair};
 
 use crate::parts_refusal::PartsRefusal;
 use crate::refusal::ShareRefusal;
-use crate::rule::{PLACES, SharingRule, admit};
+use crate::rule::{PLACES, SharingRule, admit, saturating_sum};
 use arrayvec::ArrayVec;
 
 /// The whole pool in ten-thousandths.
@@ -38,7 +38,7 @@ impl<R> Parts<R> {
         ensures writes { self.new.parts ≡ written result parts.now self.old.parts }
         ensures below { self.new.rule ≡ self.old.rule }
     {
-        if parts.len() != PLACES || !within_whole(parts) {
+        if parts.len() != PLACES || saturating_sum(parts) > WHOLE {
             return Err(PartsRefusal::Parts);
         }
         self.parts.copy_from_slice(parts);
@@ -77,14 +77,4 @@ impl<R: SharingRule> SharingRule for Parts<R> {
         }
         Ok(())
     }
-}
-
-// Whether the parts add up to no more than the whole.
-fn within_whole(parts: &[u64]) -> bool
-    ensures { IsTrue result ↔ (sum parts.now ≤ 10000) }
-{
-    parts
-        .iter()
-        .fold(0u64, |sum, part| sum.saturating_add(*part))
-        <= WHOLE
 }

@@ -1,5 +1,5 @@
 //! The sharing rule as an interface, and the test that every rule's call begins with.
-ghost use Rattle.std.specs.Prelude.{◌≡◌, ℕ, ◌-◌, List, length, sum};
+ghost use Rattle.std.specs.Prelude.{◌≡◌, ℕ, ◌-◌, min, List, length, sum};
 ghost use Rattle.sharing.specs.Fair.{Fair};
 ghost use Rattle.sharing.specs.Refusals.{answer, some_over, written};
 
@@ -42,9 +42,16 @@ pub fn admit(pool: u64, needs: &[u64], places: usize) -> Result<(), ShareRefusal
 pub fn left_of(pool: u64, shares: &[u64]) -> u64
     ensures { result ≡ pool - sum shares.now }
 {
-    shares
+    pool.saturating_sub(saturating_sum(shares))
+}
+
+// The sum of the amounts, or the largest number where it does not fit.
+pub(crate) fn saturating_sum(amounts: &[u64]) -> u64
+    ensures { result ≡ min (sum amounts.now) u64.MAX }
+{
+    amounts
         .iter()
-        .fold(pool, |left, share| left.saturating_sub(*share))
+        .fold(0u64, |sum, amount| sum.saturating_add(*amount))
 }
 
 // Whether a need is over its limit.
