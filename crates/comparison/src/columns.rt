@@ -20,24 +20,24 @@ pub struct Column {
 
 // The column of a rule.
 fn column_of<R: SharingRule>(
-    heap: Global,
+    alloc: Global,
     rule: &R,
     pool: u64,
     needs: &[u64],
 ) -> Result<Column, Problem>
     ensures { ColumnMade (R.SharingRule.sharing rule.now) pool needs.now result }
 {
-    let mut shares = vec![in heap; 0; needs.len()]?;
+    let mut shares = vec![in alloc; 0; needs.len()]?;
     rule.share(pool, needs, &mut shares)?;
     let left = left_of(pool, &shares);
     Ok(Column { shares, left })
 }
 
 // The parts of all 32 places, of which those past the list are 0.
-fn pad(heap: Global, parts: &[u64]) -> Result<Vec<u64>, AllocError>
+fn pad(alloc: Global, parts: &[u64]) -> Result<Vec<u64>, AllocError>
     ensures { IfOk result (λ v. v.items ≡ padded parts.now) }
 {
-    let mut all = Vec::from_slice(heap, parts)?;
+    let mut all = Vec::from_slice(alloc, parts)?;
     for _ in parts.len()..PLACES {
         all.push(0)?;
     }
@@ -46,7 +46,7 @@ fn pad(heap: Global, parts: &[u64]) -> Result<Vec<u64>, AllocError>
 
 // The column of the layer that gives the places these parts ahead of the rule.
 fn column_with_parts<R: SharingRule + Drop>(
-    heap: Global,
+    alloc: Global,
     rule: R,
     parts: &[u64],
     pool: u64,
@@ -56,7 +56,7 @@ fn column_with_parts<R: SharingRule + Drop>(
 {
     let mut layer = Parts::over(rule);
     layer.set(parts)?;
-    column_of(heap, &layer, pool, needs)
+    column_of(alloc, &layer, pool, needs)
 }
 
 /// The four columns of a comparison.
@@ -74,17 +74,17 @@ pub struct Comparison {
 
 // The four columns with these parts.
 fn columns_with(
-    heap: Global,
+    alloc: Global,
     pool: u64,
     needs: &[u64],
     parts: &[u64],
 ) -> Result<Comparison, Problem>
     ensures { Compared pool needs.now parts.now result }
 {
-    let line_order = column_of(heap, &LineOrder, pool, needs)?;
-    let proportion = column_of(heap, &Proportion, pool, needs)?;
-    let parts_over_line_order = column_with_parts(heap, LineOrder, parts, pool, needs)?;
-    let parts_over_proportion = column_with_parts(heap, Proportion, parts, pool, needs)?;
+    let line_order = column_of(alloc, &LineOrder, pool, needs)?;
+    let proportion = column_of(alloc, &Proportion, pool, needs)?;
+    let parts_over_line_order = column_with_parts(alloc, LineOrder, parts, pool, needs)?;
+    let parts_over_proportion = column_with_parts(alloc, Proportion, parts, pool, needs)?;
     Ok(Comparison {
         line_order,
         proportion,
@@ -94,9 +94,9 @@ fn columns_with(
 }
 
 /// Compares the rules on a pool and its needs, the places past the list of parts having none.
-pub fn compare(heap: Global, pool: u64, needs: &[u64], parts: &[u64]) -> Result<Comparison, Problem>
+pub fn compare(alloc: Global, pool: u64, needs: &[u64], parts: &[u64]) -> Result<Comparison, Problem>
     ensures { Compared pool needs.now (padded parts.now) result }
 {
-    let all = pad(heap, parts)?;
-    columns_with(heap, pool, needs, &all)
+    let all = pad(alloc, parts)?;
+    columns_with(alloc, pool, needs, &all)
 }

@@ -106,11 +106,11 @@ fn read_field(found: &mut Vec<u64>, line: usize, field: &[u8], most: usize) -> R
 }
 
 // The numbers of a line that may have `most` fields.
-fn read_row(heap: Global, line: usize, text: &[u8], most: usize) -> Result<Vec<u64>, Problem>
+fn read_row(alloc: Global, line: usize, text: &[u8], most: usize) -> Result<Vec<u64>, Problem>
     requires few { most ≤ 33 }
     ensures { RowRead line most text.now result }
 {
-    let mut found = Vec::new(heap);
+    let mut found = Vec::new(alloc);
     let mut rest = text;
     while let Some((field, after)) = cut(rest) {
         read_field(&mut found, line, field, most)?;
@@ -121,16 +121,16 @@ fn read_row(heap: Global, line: usize, text: &[u8], most: usize) -> Result<Vec<u
 }
 
 // The parts of a second line, or none where the text has ended.
-fn read_parts(heap: Global, text: &[u8]) -> Result<Vec<u64>, Problem>
+fn read_parts(alloc: Global, text: &[u8]) -> Result<Vec<u64>, Problem>
     ensures { PartsRead text.now result }
 {
     if text.is_empty() {
-        return Ok(Vec::new(heap));
+        return Ok(Vec::new(alloc));
     }
     let Some((second, rest)) = line(text) else {
         return Err(wrong_at(2, None, Wrong::LineFeed));
     };
-    let parts = read_row(heap, 2, second, PLACES)?;
+    let parts = read_row(alloc, 2, second, PLACES)?;
     if !rest.is_empty() {
         return Err(wrong_at(3, None, Wrong::Line));
     }
@@ -138,17 +138,17 @@ fn read_parts(heap: Global, text: &[u8]) -> Result<Vec<u64>, Problem>
 }
 
 /// Reads a question, or tells the first place at which the text is none.
-pub fn read(heap: Global, text: &[u8]) -> Result<Question, Problem>
+pub fn read(alloc: Global, text: &[u8]) -> Result<Question, Problem>
     ensures { QuestionRead text.now result }
 {
     let Some((first, rest)) = line(text) else {
         return Err(wrong_at(1, None, Wrong::LineFeed));
     };
-    let mut needs = read_row(heap, 1, first, PLACES + 1)?;
+    let mut needs = read_row(alloc, 1, first, PLACES + 1)?;
     let pool = needs.remove(0);
     if needs.is_empty() {
         return Err(wrong_at(1, Some(2), Wrong::Missing));
     }
-    let parts = read_parts(heap, rest)?;
+    let parts = read_parts(alloc, rest)?;
     Ok(Question { pool, needs, parts })
 }
