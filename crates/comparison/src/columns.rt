@@ -3,6 +3,7 @@ ghost use Rattle.std.specs.Prelude.{◌≡◌, IfOk};
 ghost use Rattle.comparison.specs.Columns.{ColumnMade, Compared, PartsColumnMade, padded};
 
 use crate::problem::Problem;
+use crate::question::Asked;
 use sharing::order::LineOrder;
 use sharing::parts::Parts;
 use sharing::proportion::Proportion;
@@ -38,25 +39,23 @@ fn pad(alloc: Global, parts: &[u64]) -> Result<Vec<u64>, AllocError>
     ensures { IfOk result (λ v. v.items ≡ padded parts.now) }
 {
     let mut all = Vec::from_slice(alloc, parts)?;
-    for _ in parts.len()..PLACES {
-        all.push(0)?;
-    }
+    all.resize(PLACES.max(parts.len()), 0)?;
     Ok(all)
 }
 
-// The column of the layer that gives the places these parts ahead of the rule.
+// The column of the layer that gives the places their parts ahead of the rule.
 fn column_with_parts<R: SharingRule + Drop>(
     alloc: Global,
     rule: R,
-    parts: &[u64],
-    pool: u64,
-    needs: &[u64],
+    asked: Asked<'_>,
 ) -> Result<Column, Problem>
-    ensures { PartsColumnMade (R.SharingRule.sharing rule) parts.now pool needs.now result }
+    ensures { let pool = asked.entry.pool in
+        let needs = asked.entry.needs.now in
+        PartsColumnMade (R.SharingRule.sharing rule) asked.entry.parts.now pool needs result }
 {
     let mut layer = Parts::over(rule);
-    layer.set(parts)?;
-    column_of(alloc, &layer, pool, needs)
+    layer.set(asked.parts)?;
+    column_of(alloc, &layer, asked.pool, asked.needs)
 }
 
 /// The four columns of a comparison.
@@ -72,19 +71,14 @@ pub struct Comparison {
     pub parts_over_proportion: Column,
 }
 
-// The four columns with these parts.
-fn columns_with(
-    alloc: Global,
-    pool: u64,
-    needs: &[u64],
-    parts: &[u64],
-) -> Result<Comparison, Problem>
-    ensures { Compared pool needs.now parts.now result }
+// The four columns, where all 32 places have their parts.
+fn columns_of(alloc: Global, asked: Asked<'_>) -> Result<Comparison, Problem>
+    ensures { Compared asked.entry.pool asked.entry.needs.now asked.entry.parts.now result }
 {
-    let line_order = column_of(alloc, &LineOrder, pool, needs)?;
-    let proportion = column_of(alloc, &Proportion, pool, needs)?;
-    let parts_over_line_order = column_with_parts(alloc, LineOrder, parts, pool, needs)?;
-    let parts_over_proportion = column_with_parts(alloc, Proportion, parts, pool, needs)?;
+    let line_order = column_of(alloc, &LineOrder, asked.pool, asked.needs)?;
+    let proportion = column_of(alloc, &Proportion, asked.pool, asked.needs)?;
+    let parts_over_line_order = column_with_parts(alloc, LineOrder, asked)?;
+    let parts_over_proportion = column_with_parts(alloc, Proportion, asked)?;
     Ok(Comparison {
         line_order,
         proportion,
@@ -93,10 +87,16 @@ fn columns_with(
     })
 }
 
-/// Compares the rules on a pool and its needs, the places past the list of parts having none.
-pub fn compare(alloc: Global, pool: u64, needs: &[u64], parts: &[u64]) -> Result<Comparison, Problem>
-    ensures { Compared pool needs.now (padded parts.now) result }
+/// Compares the rules on what is asked, the places past the list of parts having none.
+pub fn compare(alloc: Global, asked: Asked<'_>) -> Result<Comparison, Problem>
+    ensures { Compared asked.entry.pool asked.entry.needs.now (padded asked.entry.parts.now) result }
 {
-    let all = pad(alloc, parts)?;
-    columns_with(alloc, pool, needs, &all)
+    let all = pad(alloc, asked.parts)?;
+    columns_of(
+        alloc,
+        Asked {
+            parts: &all,
+            ..asked
+        },
+    )
 }

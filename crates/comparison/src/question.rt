@@ -70,6 +70,17 @@ impl fmt::Display for Fault {
     }
 }
 
+/// What a question asks: a pool, the places' needs, and the parts of the first places.
+#[derive(Clone, Copy)]
+pub struct Asked<'a> {
+    /// The pool in kWh.
+    pub pool: u64,
+    /// The need of each place in kWh.
+    pub needs: &'a [u64],
+    /// The part of each of the first places, in ten-thousandths of the pool.
+    pub parts: &'a [u64],
+}
+
 /// A pool to be shared, with the parts that some places are to get ahead of the others.
 #[derive(Drop)]
 pub struct Question {
@@ -79,6 +90,21 @@ pub struct Question {
     pub needs: Vec<u64>,
     /// The part of each of the first places, in ten-thousandths of the pool.
     pub parts: Vec<u64>,
+}
+
+impl Question {
+    /// What the question asks.
+    pub fn asked(&self) -> Asked<'_>
+        ensures pool { result.pool ≡ self.now.pool }
+        ensures needs { result.needs.now ≡ self.now.needs.items }
+        ensures parts { result.parts.now ≡ self.now.parts.items }
+    {
+        Asked {
+            pool: self.pool,
+            needs: &self.needs,
+            parts: &self.parts,
+        }
+    }
 }
 
 // The problem of a fault.

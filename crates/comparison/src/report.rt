@@ -3,16 +3,16 @@ ghost use Rattle.comparison.specs.Reports.{Printed, Reported};
 
 use crate::columns::compare;
 use crate::problem::Problem;
-use crate::question::read;
+use crate::question::{Asked, read};
 use crate::table::table_text;
 use std::alloc::Global;
 
-// The table of a question, the places past the list of parts having none.
-fn table_for(alloc: Global, pool: u64, needs: &[u64], parts: &[u64]) -> Result<String, Problem>
-    ensures { Printed pool needs.now parts.now result }
+// The table of what is asked, the places past the list of parts having none.
+fn table_for(alloc: Global, asked: Asked<'_>) -> Result<String, Problem>
+    ensures { Printed asked.entry.pool asked.entry.needs.now asked.entry.parts.now result }
 {
-    let compared = compare(alloc, pool, needs, parts)?;
-    let table = table_text(alloc, needs, &compared)?;
+    let compared = compare(alloc, asked)?;
+    let table = table_text(alloc, asked.needs, &compared)?;
     Ok(table)
 }
 
@@ -20,6 +20,6 @@ fn table_for(alloc: Global, pool: u64, needs: &[u64], parts: &[u64]) -> Result<S
 pub fn report(alloc: Global, text: &[u8]) -> Result<String, Problem>
     ensures { Reported text.now result }
 {
-    let asked = read(alloc, text)?;
-    table_for(alloc, asked.pool, &asked.needs, &asked.parts)
+    let question = read(alloc, text)?;
+    table_for(alloc, question.asked())
 }

@@ -12,11 +12,7 @@ const NAMES: &str =
 fn share_at(column: &Column, place: usize) -> u64
     ensures { result ≡ slice_index column.now.shares.items place }
 {
-    if place < column.shares.len() {
-        column.shares[place]
-    } else {
-        0
-    }
+    column.shares.get(place).copied().unwrap_or(0)
 }
 
 // The line of a place.
