@@ -6,7 +6,7 @@ ghost use Rattle.comparison.specs.Words.{fault_told, wrong_words};
 ghost use Rattle.comparison.specs.declared.problem.Problem.TheVariants.{At};
 
 use crate::problem::Problem;
-use fields::marks::{cut, line};
+use fields::marks::{COMMA, line};
 use fields::numbers::number;
 use sharing::rule::PLACES;
 use std::alloc::Global;
@@ -137,12 +137,9 @@ fn read_row(alloc: Global, line: usize, text: &[u8], most: usize) -> Result<Vec<
     ensures { RowRead line most text.now result }
 {
     let mut found = Vec::new(alloc);
-    let mut rest = text;
-    while let Some((field, after)) = cut(rest) {
+    for field in text.split(|byte| *byte == COMMA) {
         read_field(&mut found, line, field, most)?;
-        rest = after;
     }
-    read_field(&mut found, line, rest, most)?;
     Ok(found)
 }
 
