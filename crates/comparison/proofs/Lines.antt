@@ -51,10 +51,6 @@ pub record Sofar (most : ℕ) (bs : List ℕ) (read : ℕ) (before : List ℕ) :
   pub short : AllByRecursion Short before
   pub few : length before ≤ most
 
-pub nothing_yet : (most : ℕ) (bs found : List ℕ) → found ≡ [] → Sofar most bs 0 found
-nothing_yet most bs found none =
-    subst (Sofar most bs 0) (sym none) (record { fields = refl; short = tt; few = omega arith })
-
 pub all_fields : (most : ℕ) (bs found : List ℕ) (read : ℕ) → Sofar most bs read found → length (fields_of bs) ≤ read → RowOf most bs found
 all_fields most bs found read so_far done =
     let fields : fields_of bs ≡ map decimal found = sym (take_all read (fields_of bs) done) ∙ so_far.fields in

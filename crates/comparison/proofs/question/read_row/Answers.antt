@@ -3,11 +3,8 @@ use Rattle.std.proofs.lemmas.Result.{err_from_is_err_and}
 use Rattle.std.proofs.lemmas.List.{length_push}
 use Rattle.std.proofs.lemmas.Iterator.Consumers.{YieldsList-turn, YieldsList-end}
 use Rattle.std.proofs.lemmas.Iterator.Splits.{YieldsList-from_slice_split}
-use Rattle.comparison.proofs.Lines.{nothing_yet, field_more, field_fault, all_fields}
+use Rattle.comparison.proofs.Lines.{field_more, field_fault, all_fields}
 use Rattle.comparison.proofs.question.read_row.Goals as goal
-
-pub loop-field-init : goal.loop-field-init
-loop-field-init c = nothing_yet c.args.most c.args.text.now _ c.new-found.ensures.items
 
 pub returns-in_err-read_field : goal.returns-in_err-read_field
 returns-in_err-read_field c =
