@@ -1,10 +1,11 @@
 -- One field more of a line of numbers.
 use Rattle.std.proofs.Common.{◌≡◌, ◌==◌, ℕ, ◌+◌, ◌<◌, ◌≤◌, true, false, cond, List, [], ◌∷◌, ◌++◌, length, get_or, map, take, drop, Ok, Err, decimal, sym, refl, ap, ◌∙◌, ap₂, subst, inl, inr, append_assoc, take_all, take-append-drop, arith}
-use Rattle.std.specs.List.{AllByRecursion, join_with_byte, onto_first, slice_split}
+use Rattle.std.specs.List.{All, AllByRecursion, join_with_byte, onto_first, slice_split}
 use Rattle.std.proofs.lemmas.Bool.{eqb-false}
 use Rattle.std.proofs.lemmas.List.{drop_more, length-map, length_push, map-append, take_more}
 use Rattle.std.proofs.lemmas.List.Splits.{join_with_byte-slice_split, length-slice_split}
-use Rattle.std.proofs.ByRecursion.{All-get_or, All-push}
+use Rattle.std.proofs.ByRecursion.{All-get_or}
+use Rattle.std.proofs.lemmas.List.Elements.{All-push}
 use Rattle.fields.proofs.Lacking.{lacks_append, lacks_one}
 use Rattle.fields.specs.Cuts.{Lacks}
 use Rattle.comparison.specs.Rows.{Short, Starts, FieldRead, RowOf, NoRow, row, front_of}
@@ -48,7 +49,7 @@ starts field (other ∷ others) lacks = (lacks, inr (join_with_byte 44 (other �
 -- the line so far: these numbers are its first fields, of which there are read
 pub record Sofar (most : ℕ) (bs : List ℕ) (read : ℕ) (before : List ℕ) : Type 0 where
   pub fields : take read (fields_of bs) ≡ map decimal before
-  pub short : AllByRecursion Short before
+  pub short : All Short before
   pub few : length before ≤ most
 
 pub all_fields : (most : ℕ) (bs found : List ℕ) (read : ℕ) → Sofar most bs read found → length (fields_of bs) ≤ read → RowOf most bs found
