@@ -1,11 +1,10 @@
 -- One field more of a line of numbers.
 use Rattle.std.proofs.Common.{◌≡◌, ◌==◌, ℕ, ◌+◌, ◌<◌, ◌≤◌, true, false, cond, List, [], ◌∷◌, ◌++◌, length, get_or, map, take, drop, Ok, Err, decimal, sym, refl, ap, ◌∙◌, ap₂, subst, inl, inr, append_assoc, take_all, take-append-drop, arith}
-use Rattle.std.specs.List.{All, AllByRecursion, join_with_byte, onto_first, slice_split}
+use Rattle.std.specs.List.{All, join_with_byte, onto_first, slice_split}
 use Rattle.std.proofs.lemmas.Bool.{eqb-false}
 use Rattle.std.proofs.lemmas.List.{drop_more, length-map, length_push, map-append, take_more}
 use Rattle.std.proofs.lemmas.List.Splits.{join_with_byte-slice_split, length-slice_split}
-use Rattle.std.proofs.ByRecursion.{All-get_or}
-use Rattle.std.proofs.lemmas.List.Elements.{All-push}
+use Rattle.std.proofs.lemmas.List.Elements.{All-cons, All-get_or, All-head, All-nil, All-push, All-tail}
 use Rattle.fields.proofs.Lacking.{lacks_append, lacks_one}
 use Rattle.fields.specs.Cuts.{Lacks}
 use Rattle.comparison.specs.Rows.{Short, Starts, FieldRead, RowOf, NoRow, row, front_of}
@@ -16,17 +15,21 @@ use Rattle.comparison.specs.declared.problem.Problem.TheVariants.{At, Memory, Of
 abbrev pub fields_of : List ℕ → List (List ℕ)
 fields_of bs = slice_split (λ b. b == 44) bs
 
-fields_lack : (bs : List ℕ) → AllByRecursion (Lacks 44) (fields_of bs)
-fields_lack [] = (λ k h e. omega arith, tt)
+none_lacks : Lacks 44 []
+none_lacks k h e = omega arith
+
+fields_lack : (bs : List ℕ) → All (Lacks 44) (fields_of bs)
+fields_lack [] = All-cons (Lacks 44) [] [] none_lacks (All-nil (Lacks 44))
 fields_lack (b ∷ bs) =
-    elim (b == 44) as (λ v. (b == 44) ≡ v → AllByRecursion (Lacks 44) (cond v ([] ∷ fields_of bs) (onto_first b (fields_of bs)))) [
-      true ↦ λ comma. (λ k h e. omega arith, fields_lack bs)
-    | false ↦ λ other. onto b (eqb-false b 44 other) (fields_of bs) (fields_lack bs)
+    elim (b == 44) as (λ v. (b == 44) ≡ v → All (Lacks 44) (cond v ([] ∷ fields_of bs) (onto_first b (fields_of bs)))) [
+      | true ↦ λ comma. All-cons (Lacks 44) [] (fields_of bs) none_lacks (fields_lack bs)
+      | false ↦ λ other. onto (lacks_one 44 b (eqb-false b 44 other)) (fields_of bs) (fields_lack bs)
     ] refl
   where
-    onto : (b : ℕ) → (b ≡ 44 → ⊥) → (parts : List (List ℕ)) → AllByRecursion (Lacks 44) parts → AllByRecursion (Lacks 44) (onto_first b parts)
-    onto b other [] lack = (lacks_one 44 b other, tt)
-    onto b other (part ∷ parts) lack = (lacks_append 44 (b ∷ []) part (lacks_one 44 b other) lack.0, lack.1)
+    onto : Lacks 44 (b ∷ []) → (parts : List (List ℕ)) → All (Lacks 44) parts → All (Lacks 44) (onto_first b parts)
+    onto own [] lack = All-cons (Lacks 44) (b ∷ []) [] own lack
+    onto own (part ∷ parts) lack =
+        All-cons (Lacks 44) (b ∷ part) parts (lacks_append 44 (b ∷ []) part own (All-head (Lacks 44) part parts lack)) (All-tail (Lacks 44) part parts lack)
 
 -- numbers as fields, with commas between them
 joined_row : (ns : List ℕ) → join_with_byte 44 (map decimal ns) ≡ row ns

@@ -89,7 +89,8 @@ fn columns_of(alloc: Global, asked: Asked<'_>) -> Result<Comparison, Problem>
 
 /// Compares the rules on what is asked, the places past the list of parts having none.
 pub fn compare(alloc: Global, asked: Asked<'_>) -> Result<Comparison, Problem>
-    ensures { Compared asked.entry.pool asked.entry.needs.now (padded asked.entry.parts.now) result }
+    ensures { let parts = padded asked.entry.parts.now in
+        Compared asked.entry.pool asked.entry.needs.now parts result }
 {
     let all = pad(alloc, asked.parts)?;
     columns_of(

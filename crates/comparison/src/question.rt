@@ -70,7 +70,7 @@ impl fmt::Display for Fault {
     }
 }
 
-/// What a question asks: a pool, the places' needs, and the parts of the first places.
+/// What is asked: a pool to be shared, the needs, and the parts that go ahead of them.
 #[derive(Clone, Copy)]
 pub struct Asked<'a> {
     /// The pool in kWh.

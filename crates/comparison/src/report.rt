@@ -12,8 +12,7 @@ fn table_for(alloc: Global, asked: Asked<'_>) -> Result<String, Problem>
     ensures { Printed asked.entry.pool asked.entry.needs.now asked.entry.parts.now result }
 {
     let compared = compare(alloc, asked)?;
-    let table = table_text(alloc, asked.needs, &compared)?;
-    Ok(table)
+    Ok(table_text(alloc, asked.needs, &compared)?)
 }
 
 /// The table of what the text asks, or why there is none.

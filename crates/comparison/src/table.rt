@@ -15,7 +15,7 @@ fn share_at(column: &Column, place: usize) -> u64
     column.shares.get(place).copied().unwrap_or(0)
 }
 
-// The line of a place.
+// The line of a place. By `format!`: a `Display` would want a struct of its own for each line.
 fn row(alloc: Global, place: usize, need: u64, c: &Comparison) -> Result<String, AllocError>
     ensures { IfOk result (λ s. string_bytes s ≡ place_row c.now place need) }
 {
