@@ -45,7 +45,7 @@ overflow_add-shares g c =
     let inv = c.loop-place-2.invariant in
     let fit = admitted c.args.pool ns (length c.args.shares.now) c.in_ok-admit.ensures in
     let fair = g.met.R.SharingRule.fair c.args.self.now.rule (c.args.pool - sum first) (less ns first) in
-    let share = at_start c.loop-place-2.shares c.share.new.shares place inv.1 ∙ ap (λ l. get_or l place 0) inv.0 in
+    let share = at_start c.loop-place-2.shares c.share.new.shares place inv.same ∙ ap (λ l. get_or l place 0) inv.given in
     omega (arith, share, fair.within place, get_or_less ns first place, fit.needs_within place, c.ahead_at.ensures)
 
 pub loop-place-2-preserved : goal.loop-place-2-preserved
@@ -54,6 +54,6 @@ loop-place-2-preserved g c =
     let first = reserved c.args.pool c.args.self.now.parts ns in
     let inv = c.loop-place-2.invariant in
     let fair = g.met.R.SharingRule.fair c.args.self.now.rule (c.args.pool - sum first) (less ns first) in
-    let long : length c.share.new.shares ≡ length ns = ap length inv.0 ∙ fair.as_many ∙ length_less ns first in
-    let more = added_more c.args.pool c.args.self.now.parts ns c.loop-place-2.place c.ahead_at.result c.loop-place-2-test.true c.ahead_at.ensures c.loop-place-2.shares c.share.new.shares (plus first c.share.new.shares) (c.loop-place-2.auto.shares ∙ long) long inv.1 inv.2 in
-    (inv.0, more.0, more.1)
+    let long : length c.share.new.shares ≡ length ns = ap length inv.given ∙ fair.as_many ∙ length_less ns first in
+    let more = added_more c.args.pool c.args.self.now.parts ns c.loop-place-2.place c.ahead_at.result c.loop-place-2-test.true c.ahead_at.ensures c.loop-place-2.shares c.share.new.shares (plus first c.share.new.shares) (c.loop-place-2.auto.shares ∙ long) long inv.same inv.begun in
+    record { given = inv.given; same = more.0; begun = more.1 }

@@ -13,10 +13,11 @@ invariant-loop-place g l =
 
 abbrev pub invariant-loop-place-2 : goal.invariant-loop-place-2
 invariant-loop-place-2 g l =
-    let parts = l.self.parts in
-    let to-come = reserved l.pool (drop l.place parts) (drop l.place l.needs) in
-    let first = reserved l.pool parts l.needs in
+    let to-come = reserved l.pool (drop l.place l.self.parts) (drop l.place l.needs) in
+    let first = reserved l.pool l.self.parts l.needs in
     let below = l.initial.shares in
-    (below ≡ g.R.SharingRule.sharing l.self.rule (l.pool - sum first) (less l.needs first))
-    × (drop l.place l.shares ≡ drop l.place below)
-    × Begun l.shares l.place (plus to-come (drop l.place below)) (plus first below)
+    record {
+      given : below ≡ g.R.SharingRule.sharing l.self.rule (l.pool - sum first) (less l.needs first);
+      same : drop l.place l.shares ≡ drop l.place below;
+      begun : Begun l.shares l.place (plus to-come (drop l.place below)) (plus first below);
+    }
