@@ -49,7 +49,7 @@ starts : (field : List ℕ) (others : List (List ℕ)) → Lacks 44 field → St
 starts field [] lacks = (lacks, inl refl)
 starts field (other ∷ others) lacks = (lacks, inr (join_with_byte 44 (other ∷ others), refl))
 
--- the line so far: these numbers are its first fields, of which there are read
+-- the line so far: its fields are these numbers, as far as they were read
 pub record Sofar (most : ℕ) (bs : List ℕ) (read : ℕ) (before : List ℕ) : Type 0 where
   pub fields : take read (fields_of bs) ≡ map decimal before
   pub short : All Short before
