@@ -1,10 +1,10 @@
 -- From the lines of a text to the question that it asks, or to the place at which it asks none.
-use Rattle.std.proofs.Common.{◌≡◌, ℕ, ◌<◌, ◌≤◌, List, [], ◌∷◌, ◌++◌, length, get_or, Some, None, sym, ◌∙◌, subst, ap₂, arith}
+use Rattle.std.proofs.Common.{◌≡◌, ℕ, ◌<◌, ◌≤◌, List, [], ◌∷◌, length, get_or, Some, None, sym, subst, ap₂, arith}
 use Rattle.std.specs.List.{remove}
 use Rattle.std.proofs.lemmas.List.{nil_from_length}
 use Rattle.fields.specs.Cuts.{Lacks}
 use Rattle.comparison.specs.Rows.{RowOf, NoRow}
-use Rattle.comparison.specs.Questions.{Asks, AsksNothing, Begins, NoPartsRead, NoQuestion, NoQuestionRead, PartsOf, at, second_endless, second_unread, third_line, first_endless, first_unread, no_need, no_parts}
+use Rattle.comparison.specs.Questions.{AsksNothing, Begins, NoPartsRead, NoQuestion, NoQuestionRead, at, second_endless, second_unread, third_line, first_endless, first_unread, no_need, no_parts}
 use Rattle.comparison.proofs.Exact.{asks_nothing}
 use Rattle.comparison.specs.declared.question.Fault.{Fault}
 use Rattle.comparison.specs.declared.problem.Problem.{Problem}
@@ -12,11 +12,6 @@ use Rattle.comparison.specs.declared.problem.Problem.TheVariants.{At, Memory, Of
 use Rattle.comparison.specs.declared.question.Wrong.TheVariants.{LineFeed, Missing, Line}
 
 -- ---- the parts
-
-pub no_parts_line : (bs found : List ℕ) → length bs ≡ 0 → found ≡ [] → PartsOf bs found
-no_parts_line bs found empty none =
-    let P : List ℕ → Type 0 = λ l. PartsOf bs l in
-    subst P (sym none) (record { text = nil_from_length bs empty; short = tt; few = omega arith })
 
 pub parts_endless : (bs : List ℕ) (why : Problem) → why ≡ At (at 2 None LineFeed) → 0 < length bs → Lacks 10 bs → NoPartsRead bs why
 parts_endless bs why is some none = subst (NoPartsRead bs) (sym is) (second_endless some none)
@@ -30,14 +25,6 @@ module _ (bs second rest : List ℕ) (begins : Begins bs second rest) where
 
   pub parts_third : (why : Problem) → why ≡ At (at 3 None Line) → (ps : List ℕ) → RowOf 32 second ps → 0 < length rest → NoPartsRead bs why
   parts_third why is ps is_row more = subst (NoPartsRead bs) (sym is) (third_line second rest ps begins is_row more)
-
-  pub parts_line : (ps : List ℕ) → RowOf 32 second ps → length rest ≡ 0 → PartsOf bs ps
-  parts_line [] is_row ended = absurd (omega (arith, is_row.some))
-  parts_line (part ∷ ps) is_row ended = record {
-    text = begins.0 ∙ ap₂ (λ l r. l ++ (10 ∷ r)) is_row.text (nil_from_length rest ended);
-    short = is_row.short;
-    few = is_row.few;
-  }
 
 -- ---- the question
 
@@ -77,13 +64,3 @@ module _ (bs first rest : List ℕ) (begins : Begins bs first rest) where
 
     pub question_no_parts : 0 < length needs → (why : Problem) → NoPartsRead rest why → NoQuestionRead bs why
     question_no_parts some why none = with_need needs whole_row some why none
-
-    pub question_asked : 0 < length needs → (ps : List ℕ) → PartsOf rest ps → Asks bs pool needs ps
-    question_asked some ps of = record {
-      text = begins.0 ∙ ap₂ (λ l r. l ++ (10 ∷ r)) whole_row.text of.text;
-      short = whole_row.short;
-      short_parts = of.short;
-      some = omega arith;
-      few = omega (arith, whole_row.few);
-      few_parts = of.few;
-    }

@@ -1,4 +1,3 @@
 mod Asking
 mod Exact
 mod Lines
-mod Printing

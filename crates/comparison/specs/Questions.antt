@@ -1,6 +1,5 @@
 -- The text of a question, and where and why a text is none.
-use Rattle.std.specs.Prelude.{◌≡◌, ℕ, ◌<◌, ◌≤◌, List, [], ◌∷◌, ◌++◌, length, Some, None, Ok, Err, vec_items, Option, Result, Vec}
-use Rattle.std.specs.List.{AllByRecursion}
+use Rattle.std.specs.Prelude.{All, ◌≡◌, ℕ, ◌<◌, ◌≤◌, List, [], ◌∷◌, ◌++◌, length, Some, None, Ok, Err, vec_items, Option, Result, Vec}
 use Rattle.fields.specs.Cuts.{Lacks}
 use Rattle.comparison.specs.Rows.{Short, RowOf, Stops, row}
 use Rattle.comparison.specs.declared.problem.Problem.{Problem}
@@ -23,8 +22,8 @@ question_text pool needs parts = row (pool ∷ needs) ++ (10 ∷ parts_text part
 -- each number of up to ten digits
 pub record Asks (bs : List ℕ) (pool : ℕ) (needs parts : List ℕ) : Type 0 where
   pub text : bs ≡ question_text pool needs parts
-  pub short : AllByRecursion Short (pool ∷ needs)
-  pub short_parts : AllByRecursion Short parts
+  pub short : All Short (pool ∷ needs)
+  pub short_parts : All Short parts
   pub some : 1 ≤ length needs
   pub few : length needs ≤ 32
   pub few_parts : length parts ≤ 32
@@ -69,7 +68,7 @@ QuestionRead bs (Err why) = NoQuestionRead bs why
 -- the text after the first line has these parts
 pub record PartsOf (bs parts : List ℕ) : Type 0 where
   pub text : bs ≡ parts_text parts
-  pub short : AllByRecursion Short parts
+  pub short : All Short parts
   pub few : length parts ≤ 32
 
 -- why no parts were read

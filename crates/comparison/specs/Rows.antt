@@ -1,6 +1,6 @@
 -- A line of numbers parted by commas: its text, and what is wrong with a text that is none.
-use Rattle.std.specs.Prelude.{◌≡◌, ℕ, ◌+◌, ◌<◌, ◌≤◌, ◌⊎◌, List, [], ◌∷◌, ◌++◌, length, Some, Ok, Err, vec_items, decimal, Result, Vec, ◌≢◌}
-use Rattle.std.specs.List.{flat_map, AllByRecursion}
+use Rattle.std.specs.Prelude.{All, ◌≡◌, ℕ, ◌+◌, ◌<◌, ◌≤◌, ◌⊎◌, List, [], ◌∷◌, ◌++◌, length, Some, Ok, Err, vec_items, decimal, Result, Vec, ◌≢◌}
+use Rattle.std.specs.List.{flat_map}
 use Rattle.fields.specs.Cuts.{Lacks}
 use Rattle.comparison.specs.declared.problem.Problem.{Problem}
 use Rattle.comparison.specs.declared.problem.Problem.TheVariants.{At, Memory, OfParts, OfRule}
@@ -43,7 +43,7 @@ pub record Stops (line most : ℕ) (bs : List ℕ) (fault : Fault) : Type 0 wher
   pub before : List ℕ
   pub rest : List ℕ
   pub text : bs ≡ front_of before ++ rest
-  pub short : AllByRecursion Short before
+  pub short : All Short before
   pub at_line : fault.line ≡ line
   pub at_field : fault.field ≡ Some (length before + 1)
   pub field : List ℕ
@@ -53,7 +53,7 @@ pub record Stops (line most : ℕ) (bs : List ℕ) (fault : Fault) : Type 0 wher
 -- the text is the row of these numbers
 pub record RowOf (most : ℕ) (bs : List ℕ) (ns : List ℕ) : Type 0 where
   pub text : bs ≡ row ns
-  pub short : AllByRecursion Short ns
+  pub short : All Short ns
   pub some : 1 ≤ length ns
   pub few : length ns ≤ most
 

@@ -3,6 +3,7 @@ ghost use Rattle.std.specs.Prelude.{◌≡◌, IfOk};
 ghost use Rattle.comparison.specs.Columns.{ColumnMade, Compared, PartsColumnMade, padded};
 
 use crate::problem::Problem;
+use crate::question::Asked;
 use sharing::order::LineOrder;
 use sharing::parts::Parts;
 use sharing::proportion::Proportion;
@@ -20,43 +21,41 @@ pub struct Column {
 
 // The column of a rule.
 fn column_of<R: SharingRule>(
-    heap: Global,
+    alloc: Global,
     rule: &R,
     pool: u64,
     needs: &[u64],
 ) -> Result<Column, Problem>
     ensures { ColumnMade (R.SharingRule.sharing rule.now) pool needs.now result }
 {
-    let mut shares = vec![in heap; 0; needs.len()]?;
+    let mut shares = vec![in alloc; 0; needs.len()]?;
     rule.share(pool, needs, &mut shares)?;
     let left = left_of(pool, &shares);
     Ok(Column { shares, left })
 }
 
 // The parts of all 32 places, of which those past the list are 0.
-fn pad(heap: Global, parts: &[u64]) -> Result<Vec<u64>, AllocError>
+fn pad(alloc: Global, parts: &[u64]) -> Result<Vec<u64>, AllocError>
     ensures { IfOk result (λ v. v.items ≡ padded parts.now) }
 {
-    let mut all = Vec::from_slice(heap, parts)?;
-    for _ in parts.len()..PLACES {
-        all.push(0)?;
-    }
+    let mut all = Vec::from_slice(alloc, parts)?;
+    all.resize(PLACES.max(parts.len()), 0)?;
     Ok(all)
 }
 
-// The column of the layer that gives the places these parts ahead of the rule.
+// The column of the layer that gives the places their parts ahead of the rule.
 fn column_with_parts<R: SharingRule + Drop>(
-    heap: Global,
+    alloc: Global,
     rule: R,
-    parts: &[u64],
-    pool: u64,
-    needs: &[u64],
+    asked: Asked<'_>,
 ) -> Result<Column, Problem>
-    ensures { PartsColumnMade (R.SharingRule.sharing rule) parts.now pool needs.now result }
+    ensures { let pool = asked.entry.pool in
+        let needs = asked.entry.needs.now in
+        PartsColumnMade (R.SharingRule.sharing rule) asked.entry.parts.now pool needs result }
 {
     let mut layer = Parts::over(rule);
-    layer.set(parts)?;
-    column_of(heap, &layer, pool, needs)
+    layer.set(asked.parts)?;
+    column_of(alloc, &layer, asked.pool, asked.needs)
 }
 
 /// The four columns of a comparison.
@@ -72,19 +71,14 @@ pub struct Comparison {
     pub parts_over_proportion: Column,
 }
 
-// The four columns with these parts.
-fn columns_with(
-    heap: Global,
-    pool: u64,
-    needs: &[u64],
-    parts: &[u64],
-) -> Result<Comparison, Problem>
-    ensures { Compared pool needs.now parts.now result }
+// The four columns, where all 32 places have their parts.
+fn columns_of(alloc: Global, asked: Asked<'_>) -> Result<Comparison, Problem>
+    ensures { Compared asked.entry.pool asked.entry.needs.now asked.entry.parts.now result }
 {
-    let line_order = column_of(heap, &LineOrder, pool, needs)?;
-    let proportion = column_of(heap, &Proportion, pool, needs)?;
-    let parts_over_line_order = column_with_parts(heap, LineOrder, parts, pool, needs)?;
-    let parts_over_proportion = column_with_parts(heap, Proportion, parts, pool, needs)?;
+    let line_order = column_of(alloc, &LineOrder, asked.pool, asked.needs)?;
+    let proportion = column_of(alloc, &Proportion, asked.pool, asked.needs)?;
+    let parts_over_line_order = column_with_parts(alloc, LineOrder, asked)?;
+    let parts_over_proportion = column_with_parts(alloc, Proportion, asked)?;
     Ok(Comparison {
         line_order,
         proportion,
@@ -93,10 +87,17 @@ fn columns_with(
     })
 }
 
-/// Compares the rules on a pool and its needs, the places past the list of parts having none.
-pub fn compare(heap: Global, pool: u64, needs: &[u64], parts: &[u64]) -> Result<Comparison, Problem>
-    ensures { Compared pool needs.now (padded parts.now) result }
+/// Compares the rules on what is asked, the places past the list of parts having none.
+pub fn compare(alloc: Global, asked: Asked<'_>) -> Result<Comparison, Problem>
+    ensures { let parts = padded asked.entry.parts.now in
+        Compared asked.entry.pool asked.entry.needs.now parts result }
 {
-    let all = pad(heap, parts)?;
-    columns_with(heap, pool, needs, &all)
+    let all = pad(alloc, asked.parts)?;
+    columns_of(
+        alloc,
+        Asked {
+            parts: &all,
+            ..asked
+        },
+    )
 }

@@ -59,6 +59,7 @@ impl From<AllocError> for Problem {
     }
 }
 
+// Not one `From` for both: for every error of memory it would overlap with those of the refusals.
 impl<T: Drop> From<AllocFailed<T>> for Problem {
     ghost from_gives = { λ _ r. r ≡ Memory };
 

@@ -6,7 +6,7 @@ ghost use Rattle.comparison.specs.Words.{fault_told, wrong_words};
 ghost use Rattle.comparison.specs.declared.problem.Problem.TheVariants.{At};
 
 use crate::problem::Problem;
-use fields::marks::{cut, line};
+use fields::marks::{COMMA, line};
 use fields::numbers::number;
 use sharing::rule::PLACES;
 use std::alloc::Global;
@@ -70,6 +70,17 @@ impl fmt::Display for Fault {
     }
 }
 
+/// What is asked: a pool to be shared, the needs, and the parts that go ahead of them.
+#[derive(Clone, Copy)]
+pub struct Asked<'a> {
+    /// The pool in kWh.
+    pub pool: u64,
+    /// The need of each place in kWh.
+    pub needs: &'a [u64],
+    /// The part of each of the first places, in ten-thousandths of the pool.
+    pub parts: &'a [u64],
+}
+
 /// A pool to be shared, with the parts that some places are to get ahead of the others.
 #[derive(Drop)]
 pub struct Question {
@@ -79,6 +90,21 @@ pub struct Question {
     pub needs: Vec<u64>,
     /// The part of each of the first places, in ten-thousandths of the pool.
     pub parts: Vec<u64>,
+}
+
+impl Question {
+    /// What the question asks.
+    pub fn asked(&self) -> Asked<'_>
+        ensures pool { result.pool ≡ self.now.pool }
+        ensures needs { result.needs.now ≡ self.now.needs.items }
+        ensures parts { result.parts.now ≡ self.now.parts.items }
+    {
+        Asked {
+            pool: self.pool,
+            needs: &self.needs,
+            parts: &self.parts,
+        }
+    }
 }
 
 // The problem of a fault.
@@ -106,31 +132,28 @@ fn read_field(found: &mut Vec<u64>, line: usize, field: &[u8], most: usize) -> R
 }
 
 // The numbers of a line that may have `most` fields.
-fn read_row(heap: Global, line: usize, text: &[u8], most: usize) -> Result<Vec<u64>, Problem>
+fn read_row(alloc: Global, line: usize, text: &[u8], most: usize) -> Result<Vec<u64>, Problem>
     requires few { most ≤ 33 }
     ensures { RowRead line most text.now result }
 {
-    let mut found = Vec::new(heap);
-    let mut rest = text;
-    while let Some((field, after)) = cut(rest) {
+    let mut found = Vec::new(alloc);
+    for field in text.split(|byte| *byte == COMMA) {
         read_field(&mut found, line, field, most)?;
-        rest = after;
     }
-    read_field(&mut found, line, rest, most)?;
     Ok(found)
 }
 
 // The parts of a second line, or none where the text has ended.
-fn read_parts(heap: Global, text: &[u8]) -> Result<Vec<u64>, Problem>
+fn read_parts(alloc: Global, text: &[u8]) -> Result<Vec<u64>, Problem>
     ensures { PartsRead text.now result }
 {
     if text.is_empty() {
-        return Ok(Vec::new(heap));
+        return Ok(Vec::new(alloc));
     }
     let Some((second, rest)) = line(text) else {
         return Err(wrong_at(2, None, Wrong::LineFeed));
     };
-    let parts = read_row(heap, 2, second, PLACES)?;
+    let parts = read_row(alloc, 2, second, PLACES)?;
     if !rest.is_empty() {
         return Err(wrong_at(3, None, Wrong::Line));
     }
@@ -138,17 +161,17 @@ fn read_parts(heap: Global, text: &[u8]) -> Result<Vec<u64>, Problem>
 }
 
 /// Reads a question, or tells the first place at which the text is none.
-pub fn read(heap: Global, text: &[u8]) -> Result<Question, Problem>
+pub fn read(alloc: Global, text: &[u8]) -> Result<Question, Problem>
     ensures { QuestionRead text.now result }
 {
     let Some((first, rest)) = line(text) else {
         return Err(wrong_at(1, None, Wrong::LineFeed));
     };
-    let mut needs = read_row(heap, 1, first, PLACES + 1)?;
+    let mut needs = read_row(alloc, 1, first, PLACES + 1)?;
     let pool = needs.remove(0);
     if needs.is_empty() {
         return Err(wrong_at(1, Some(2), Wrong::Missing));
     }
-    let parts = read_parts(heap, rest)?;
+    let parts = read_parts(alloc, rest)?;
     Ok(Question { pool, needs, parts })
 }

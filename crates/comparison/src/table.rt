@@ -12,45 +12,41 @@ const NAMES: &str =
 fn share_at(column: &Column, place: usize) -> u64
     ensures { result ≡ slice_index column.now.shares.items place }
 {
-    if place < column.shares.len() {
-        column.shares[place]
-    } else {
-        0
-    }
+    column.shares.get(place).copied().unwrap_or(0)
 }
 
-// The line of a place.
-fn row(heap: Global, place: usize, need: u64, c: &Comparison) -> Result<String, AllocError>
+// The line of a place. By `format!`: a `Display` would want a struct of its own for each line.
+fn row(alloc: Global, place: usize, need: u64, c: &Comparison) -> Result<String, AllocError>
     ensures { IfOk result (λ s. string_bytes s ≡ place_row c.now place need) }
 {
     let line_order = share_at(&c.line_order, place);
     let proportion = share_at(&c.proportion, place);
     let over_line_order = share_at(&c.parts_over_line_order, place);
     let over_proportion = share_at(&c.parts_over_proportion, place);
-    format!(in heap;
+    format!(in alloc;
         "{place},{need},{line_order},{proportion},{over_line_order},{over_proportion}\n"
     )
 }
 
 // The line of what is left of the pool.
-fn rest(heap: Global, c: &Comparison) -> Result<String, AllocError>
+fn rest(alloc: Global, c: &Comparison) -> Result<String, AllocError>
     ensures { IfOk result (λ s. string_bytes s ≡ last_row c.now) }
 {
     let line_order = c.line_order.left;
     let proportion = c.proportion.left;
     let over_line_order = c.parts_over_line_order.left;
     let over_proportion = c.parts_over_proportion.left;
-    format!(in heap; "left,-,{line_order},{proportion},{over_line_order},{over_proportion}\n")
+    format!(in alloc; "left,-,{line_order},{proportion},{over_line_order},{over_proportion}\n")
 }
 
 /// The table as text: a line of names, a line for each place, and a line of what is left of the pool.
-pub fn table_text(heap: Global, needs: &[u64], c: &Comparison) -> Result<String, AllocError>
+pub fn table_text(alloc: Global, needs: &[u64], c: &Comparison) -> Result<String, AllocError>
     ensures { IfOk result (λ s. string_bytes s ≡ table_of needs.now c.now) }
 {
-    let mut text = String::from_str(heap, NAMES)?;
+    let mut text = String::from_str(alloc, NAMES)?;
     for (place, need) in needs.iter().enumerate() {
-        text.push_str(row(heap, place, *need, c)?.as_str())?;
+        text.push_str(row(alloc, place, *need, c)?.as_str())?;
     }
-    text.push_str(rest(heap, c)?.as_str())?;
+    text.push_str(rest(alloc, c)?.as_str())?;
     Ok(text)
 }

@@ -7,10 +7,10 @@ use std::io::Read;
 use std::process::ExitCode;
 
 fn main(rt: HostRuntime) -> io::Result<ExitCode> {
-    let heap = rt.alloc();
-    let mut text = Vec::new(heap);
+    let alloc = rt.alloc();
+    let mut text = Vec::new(alloc);
     rt.stdin().read_to_end(&mut text)?;
-    match report(heap, &text) {
+    match report(alloc, &text) {
         Ok(table) => {
             print!(rt; "{table}")?;
             Ok(ExitCode::SUCCESS)

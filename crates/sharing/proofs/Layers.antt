@@ -1,16 +1,11 @@
 -- One place more of the layer of parts, and what it hands to the rule below.
-use Rattle.std.proofs.Common.{◌≡◌, ℕ, zero, suc, ◌+◌, ◌-◌, ◌<◌, ◌≤◌, List, [], ◌∷◌, ◌++◌, length, get_or, take, drop, set, sum, sym, refl, ap, ◌∙◌, append-nil, add-zero, add-one, arith}
-use Rattle.std.proofs.lemmas.List.{drop_more, drop_all, drop-drop, drop-set-lt, get_or-drop}
+use Rattle.std.proofs.Common.{◌≡◌, ℕ, zero, suc, ◌+◌, ◌-◌, ◌<◌, ◌≤◌, List, [], ◌∷◌, ◌++◌, length, get_or, drop, set, sum, sym, refl, ap, ◌∙◌, append-nil, append_assoc, add-zero, add-one, arith}
+use Rattle.std.proofs.lemmas.List.{drop_more, drop_all, drop-drop, drop-set-lt, get_or-drop, length_push}
 use Rattle.sharing.specs.Fair.{plus, less}
 use Rattle.sharing.specs.Rules.{ahead, reserved}
 use Rattle.sharing.proofs.Admission.{Admitted}
 use Rattle.sharing.specs.Fairness.{sum_cons, length_less, get_or_less}
 use Rattle.sharing.proofs.Writing.{Begun, begun_more}
-
-pub get_or_le_sum : (xs : List ℕ) (k : ℕ) → get_or xs k 0 ≤ sum xs
-get_or_le_sum [] k = omega arith
-get_or_le_sum (x ∷ xs) zero = omega (arith, sum_cons x xs)
-get_or_le_sum (x ∷ xs) (suc k) = omega (arith, sum_cons x xs, get_or_le_sum xs k)
 
 -- what is set aside from a place on
 abbrev from : (pool : ℕ) (parts ns : List ℕ) (place : ℕ) → List ℕ
@@ -30,24 +25,32 @@ at_start xs ys k same =
     let front : (l : List ℕ) → get_or (drop k l) 0 0 ≡ get_or l k 0 = λ l. get_or-drop k l 0 0 ∙ ap (λ i. get_or l i 0) (add-zero k) in
     sym (front xs) ∙ ap (λ l. get_or l 0 0) same ∙ front ys
 
+-- so far the places before this one have what they get ahead set aside: from the pool, of which left is what remains,
+-- and from their needs, of which rest is what remains
+pub record Aside (pool : ℕ) (parts ns : List ℕ) (place left : ℕ) (rest : List ℕ) (total : ℕ) (whole : List ℕ) : Type 0 where
+  pub count : length rest ≡ place
+  pub fits : sum (from pool parts ns place) ≤ left
+  pub same : left - sum (from pool parts ns place) ≡ total
+  pub written : rest ++ less (drop place ns) (from pool parts ns place) ≡ whole
+
 -- own is what the place gets ahead of the others
 module _ (pool : ℕ) (parts ns : List ℕ) (place own : ℕ) (within : place < length ns) (is : own ≡ ahead pool (get_or parts place 0) (get_or ns place 0)) where
   from_more : from pool parts ns place ≡ own ∷ from pool parts ns (place + 1)
   from_more = rw add-one (from_suc pool parts ns place within ∙ ap (λ x. x ∷ from pool parts ns (suc place)) (sym is))
 
-  pub own_fits : (left : ℕ) → sum (from pool parts ns place) ≤ left → own ≤ left
-  own_fits left fits = omega (arith, ap sum from_more, sum_cons own (from pool parts ns (place + 1)))
-
   -- one place more is set aside from the pool and from the needs
-  pub aside_more : (left : ℕ) (rest : List ℕ) (total : ℕ) (whole : List ℕ) → place < length rest → sum (from pool parts ns place) ≤ left → left - sum (from pool parts ns place) ≡ total → Begun rest place (less (drop place ns) (from pool parts ns place)) whole →
-      (sum (from pool parts ns (place + 1)) ≤ left - own)
-      × (left - own - sum (from pool parts ns (place + 1)) ≡ total)
-      × Begun (set rest place (get_or ns place 0 - own)) (place + 1) (less (drop (place + 1) ns) (from pool parts ns (place + 1))) whole
-  aside_more left rest total whole room fits same begun =
+  pub aside_more : (left : ℕ) (rest next : List ℕ) (total : ℕ) (whole : List ℕ) → Aside pool parts ns place left rest total whole →
+      next ≡ rest ++ ((get_or ns place 0 - own) ∷ []) → Aside pool parts ns (place + 1) (left - own) next total whole
+  aside_more left rest next total whole so_far pushed =
       let after = from pool parts ns (place + 1) in
       let aside = ap sum from_more ∙ sum_cons own after in
-      let next = ap (less (drop place ns)) from_more ∙ ap (λ l. less l (own ∷ after)) (drop_more ns place 0 within) in
-      (omega (arith, aside), omega (arith, aside), begun_more rest place _ whole begun _ _ room next)
+      let needs = ap (less (drop place ns)) from_more ∙ ap (λ l. less l (own ∷ after)) (drop_more ns place 0 within) in
+      record {
+        count = ap length pushed ∙ length_push rest _ ∙ ap (λ n. n + 1) so_far.count;
+        fits = omega (arith, aside, so_far.fits);
+        same = omega (arith, aside, so_far.same);
+        written = ap (λ l. l ++ less (drop (place + 1) ns) after) pushed ∙ append_assoc rest _ _ ∙ ap (λ l. rest ++ l) (sym needs) ∙ so_far.written;
+      }
 
   -- one place more gets its amount added to its share
   pub added_more : (shares below whole : List ℕ) → length shares ≡ length ns → length below ≡ length ns → drop place shares ≡ drop place below → Begun shares place (plus (from pool parts ns place) (drop place below)) whole →
@@ -70,14 +73,9 @@ module _ (pool : ℕ) (parts ns : List ℕ) (place : ℕ) (done : length ns ≤ 
   pub aside_all : (left : ℕ) (total : ℕ) → left - sum (from pool parts ns place) ≡ total → left ≡ total
   aside_all left total same = omega (arith, ap sum from_all)
 
-  pub rest_all : (rest whole : List ℕ) → place ≤ length ns → Begun rest place (less (drop place ns) (from pool parts ns place)) whole → take (length ns - 0) rest ≡ whole
-  rest_all rest whole last begun =
-      let none = ap (λ l. less l (from pool parts ns place)) (drop_all place ns done) in
-      let upto : length ns - 0 ≡ place = omega arith in
-      ap (λ n. take n rest) upto ∙ sym (append-nil (take place rest)) ∙ ap (λ l. take place rest ++ l) (sym none) ∙ begun
-
-  pub added_all : (below : List ℕ) → length below ≡ length ns → plus (from pool parts ns place) (drop place below) ≡ []
-  added_all below long = ap (λ first. plus first (drop place below)) from_all ∙ drop_all place below (omega arith)
+  pub rest_all : (rest whole : List ℕ) → rest ++ less (drop place ns) (from pool parts ns place) ≡ whole → rest ≡ whole
+  rest_all rest whole written =
+      sym (append-nil rest) ∙ ap (λ l. rest ++ l) (sym (ap (λ l. less l (from pool parts ns place)) (drop_all place ns done))) ∙ written
 
 -- what is left of an admitted pool and its needs is admitted
 pub rest_admitted : (pool : ℕ) (needs first : List ℕ) (places : ℕ) → Admitted pool needs places → Admitted (pool - sum first) (less needs first) places

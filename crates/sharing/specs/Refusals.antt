@@ -1,5 +1,6 @@
 -- The refusals of this crate: the number of each, what it stands for, and what a call answers and leaves.
-use Rattle.std.specs.Prelude.{ℕ, Bool, false, cond, not, ◌||◌, List, [], ◌∷◌, ◌++◌, length, Ok, Err, codes, decimal, sum, Result, ◌==◌, nat_lt}
+use Rattle.std.specs.Prelude.{ℕ, Bool, if◌then◌else◌, not, ◌||◌, List, ◌++◌, length, Ok, Err, codes, decimal, sum, Result, ◌==◌, nat_lt}
+use Rattle.std.specs.List.{list_any}
 use Rattle.sharing.specs.declared.refusal.ShareRefusal.{ShareRefusal}
 use Rattle.sharing.specs.declared.refusal.ShareRefusal.TheVariants.{Count, Size}
 use Rattle.sharing.specs.declared.parts_refusal.PartsRefusal.{PartsRefusal}
@@ -13,8 +14,7 @@ pub record Meaning (Test : Type 0) : Type 0 where
 
 -- a need is over 2,000,000 kWh
 abbrev pub some_over : List ℕ → Bool
-some_over [] = false
-some_over (need ∷ needs) = nat_lt 2000000 need || some_over needs
+some_over needs = list_any (nat_lt 2000000) needs
 
 -- the refusals of a rule's call, by its pool, its needs and the number of places for shares
 abbrev pub meaning : ShareRefusal → Meaning (ℕ → List ℕ → ℕ → Bool)
@@ -44,12 +44,12 @@ told m = decimal m.number ++ (codes ": " ++ m.words)
 -- the answer of a rule's call: the first refusal that stands, else done
 abbrev pub answer : ℕ → List ℕ → ℕ → Result (Unit {0}) ShareRefusal
 answer pool needs places =
-    cond ((meaning Count).stands pool needs places) (Err Count)
-    (cond ((meaning Size).stands pool needs places) (Err Size) (Ok tt))
+    if (meaning Count).stands pool needs places then Err Count
+    else (if (meaning Size).stands pool needs places then Err Size else Ok tt)
 
 -- the answer of the call that sets the parts
 abbrev pub parts_answer : List ℕ → Result (Unit {0}) PartsRefusal
-parts_answer parts = cond ((parts_meaning Parts).stands parts) (Err Parts) (Ok tt)
+parts_answer parts = if (parts_meaning Parts).stands parts then Err Parts else Ok tt
 
 -- what a list holds after a call that writes it anew or refuses: the new list, or what it held before
 abbrev pub written : {E : Type 0} → Result (Unit {0}) E → List ℕ → List ℕ → List ℕ

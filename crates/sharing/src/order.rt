@@ -16,6 +16,7 @@ impl SharingRule for LineOrder {
 
     fn share(&self, pool: u64, needs: &[u64], shares: &mut [u64]) -> Result<(), ShareRefusal> {
         admit(pool, needs, shares.len())?;
+        // The order is the rule: what a place leaves is handed on to the one after it.
         let mut left = pool;
         for (place, need) in needs.iter().enumerate() {
             let share = left.min(*need);

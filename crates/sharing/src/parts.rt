@@ -1,12 +1,13 @@
 //! Parts, a layer over any rule.
-ghost use Rattle.std.specs.Prelude.{◌≡◌, ◌<◌, ◌≤◌, replicate, sum, nat_le, slice_index};
+ghost use Rattle.std.specs.Prelude.{◌≡◌, ◌<◌, ◌≤◌, replicate, sum, slice_index};
 ghost use Rattle.sharing.specs.Refusals.{parts_answer, written};
 ghost use Rattle.sharing.specs.Rules.{ahead, with_parts};
 ghost use Rattle.sharing.specs.Fairness.{with_parts_fair};
 
 use crate::parts_refusal::PartsRefusal;
 use crate::refusal::ShareRefusal;
-use crate::rule::{PLACES, SharingRule, admit};
+use crate::rule::{PLACES, SharingRule, admit, saturating_sum};
+use arrayvec::ArrayVec;
 
 /// The whole pool in ten-thousandths.
 pub const WHOLE: u64 = 10_000;
@@ -37,7 +38,7 @@ impl<R> Parts<R> {
         ensures writes { self.new.parts ≡ written result parts.now self.old.parts }
         ensures below { self.new.rule ≡ self.old.rule }
     {
-        if parts.len() != PLACES || !within_whole(parts) {
+        if parts.len() != PLACES || saturating_sum(parts) > WHOLE {
             return Err(PartsRefusal::Parts);
         }
         self.parts.copy_from_slice(parts);
@@ -57,35 +58,23 @@ impl<R> Parts<R> {
 impl<R: SharingRule> SharingRule for Parts<R> {
     ghost sharing = { λ layer. with_parts (R.SharingRule.sharing layer.rule) layer.parts };
 
-    ghost fair = { λ layer. with_parts_fair _ (R.SharingRule.fair layer.rule) layer.parts layer.whole };
+    ghost fair = { λ layer.
+        with_parts_fair _ (R.SharingRule.fair layer.rule) layer.parts layer.whole };
 
     fn share(&self, pool: u64, needs: &[u64], shares: &mut [u64]) -> Result<(), ShareRefusal> {
         admit(pool, needs, shares.len())?;
         let mut left = pool;
-        let mut rest = [0; PLACES];
+        let mut rest = ArrayVec::<u64, PLACES>::new();
         for (place, need) in needs.iter().enumerate() {
             let own = self.ahead_at(place, pool, *need);
             left -= own;
-            rest[place] = *need - own;
+            rest.push(*need - own);
         }
-        self.rule.share(left, &rest[0..needs.len()], shares)?;
+        self.rule.share(left, &rest, shares)?;
+        // By places: after `shares.iter_mut().zip(needs)` no proof knows what was written.
         for (place, need) in needs.iter().enumerate() {
             shares[place] += self.ahead_at(place, pool, *need);
         }
         Ok(())
     }
-}
-
-// Whether the parts add up to no more than the whole.
-fn within_whole(parts: &[u64]) -> bool
-    ensures { result ≡ nat_le (sum parts.now) 10000 }
-{
-    let mut so_far = 0;
-    for part in parts {
-        if *part > WHOLE - so_far {
-            return false;
-        }
-        so_far += *part;
-    }
-    true
 }

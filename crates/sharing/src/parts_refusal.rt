@@ -12,6 +12,7 @@ pub enum PartsRefusal {
 }
 
 impl PartsRefusal {
+    // By `match`, as in `ShareRefusal`.
     /// The refusal's number.
     pub fn number(self) -> u8
         ensures { result ≡ (parts_meaning self).number }
@@ -31,12 +32,11 @@ impl PartsRefusal {
     }
 }
 
+// Like that of `ShareRefusal`: no one `Display` can serve every type of a trait.
 impl fmt::Display for PartsRefusal {
     ghost output = { λ refusal. Some (told (parts_meaning refusal)) };
 
     fn fmt<W: fmt::Write>(&self, f: &mut fmt::Formatter<W>) -> fmt::Result {
-        let number = self.number();
-        let words = self.words();
-        write!(f, "{number}: {words}")
+        write!(f, "{}: {}", self.number(), self.words())
     }
 }

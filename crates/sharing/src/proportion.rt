@@ -1,10 +1,10 @@
 //! Proportion.
-ghost use Rattle.std.specs.Prelude.{◌≡◌, ◌+◌, ◌-◌, ◌^◌, ◌<◌, ◌≤◌, sum};
+ghost use Rattle.std.specs.Prelude.{◌≡◌, ◌+◌, ◌-◌, ◌≤◌};
 ghost use Rattle.sharing.specs.Rules.{portion, proportion};
 ghost use Rattle.sharing.specs.Fairness.{proportion_fair};
 
 use crate::refusal::ShareRefusal;
-use crate::rule::{SharingRule, admit};
+use crate::rule::{SharingRule, admit, saturating_sum};
 
 /// Proportion: what is given is shared by need, and what rounding holds back from a place is carried on to those after it.
 #[derive(Clone, Copy)]
@@ -17,8 +17,9 @@ impl SharingRule for Proportion {
 
     fn share(&self, pool: u64, needs: &[u64], shares: &mut [u64]) -> Result<(), ShareRefusal> {
         admit(pool, needs, shares.len())?;
-        let all = sum_of(needs);
+        let all = saturating_sum(needs);
         let given = pool.min(all);
+        // By places: after `shares.iter_mut().zip(needs)` no proof knows what was written.
         let mut before = 0;
         for (place, need) in needs.iter().enumerate() {
             shares[place] = share_of(given, all, before, *need);
@@ -26,14 +27,6 @@ impl SharingRule for Proportion {
         }
         Ok(())
     }
-}
-
-// The sum of needs that were admitted.
-fn sum_of(needs: &[u64]) -> u64
-    requires { sum needs.now < 2 ^ 64 }
-    ensures { result ≡ sum needs.now }
-{
-    needs.iter().sum()
 }
 
 // What a place gets that comes after the needs before it.
@@ -52,5 +45,5 @@ fn portion_of(given: u64, all: u64, first: u64) -> u64
     requires first { first ≤ 64000000 }
     ensures { result ≡ portion given all first }
 {
-    if all == 0 { 0 } else { given * first / all }
+    (given * first).checked_div(all).unwrap_or(0)
 }

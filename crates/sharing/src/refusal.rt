@@ -14,6 +14,7 @@ pub enum ShareRefusal {
 }
 
 impl ShareRefusal {
+    // By `match`, and not as discriminants: the contract, not the compiler, refuses a wrong number.
     /// The refusal's number.
     pub fn number(self) -> u8
         ensures { result ≡ (meaning self).number }
@@ -39,8 +40,6 @@ impl fmt::Display for ShareRefusal {
     ghost output = { λ refusal. Some (told (meaning refusal)) };
 
     fn fmt<W: fmt::Write>(&self, f: &mut fmt::Formatter<W>) -> fmt::Result {
-        let number = self.number();
-        let words = self.words();
-        write!(f, "{number}: {words}")
+        write!(f, "{}: {}", self.number(), self.words())
     }
 }

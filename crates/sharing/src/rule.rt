@@ -1,5 +1,5 @@
 //! The sharing rule as an interface, and the test that every rule's call begins with.
-ghost use Rattle.std.specs.Prelude.{◌≡◌, ℕ, ◌-◌, List, length, sum};
+ghost use Rattle.std.specs.Prelude.{◌≡◌, ℕ, ◌-◌, min, List, length, sum};
 ghost use Rattle.sharing.specs.Fair.{Fair};
 ghost use Rattle.sharing.specs.Refusals.{answer, some_over, written};
 
@@ -21,7 +21,8 @@ pub trait SharingRule {
         ensures answers { result ≡ answer pool needs.now (length shares.old) }
         ensures writes { shares.new ≡ written result (sharing self.now pool needs.now) shares.old };
 
-    ghost fair: { (rule : Self) (pool : ℕ) (needs : List ℕ) → Fair pool needs (sharing rule pool needs) };
+    ghost fair: { (rule : Self) (pool : ℕ) (needs : List ℕ)
+        → Fair pool needs (sharing rule pool needs) };
 }
 
 /// The test of every rule's call: 7 and then 8, or done.
@@ -41,21 +42,21 @@ pub fn admit(pool: u64, needs: &[u64], places: usize) -> Result<(), ShareRefusal
 pub fn left_of(pool: u64, shares: &[u64]) -> u64
     ensures { result ≡ pool - sum shares.now }
 {
-    let mut left = pool;
-    for share in shares {
-        left = left.saturating_sub(*share);
-    }
-    left
+    pool.saturating_sub(saturating_sum(shares))
+}
+
+// The sum of the amounts, or the largest number where it does not fit.
+pub(crate) fn saturating_sum(amounts: &[u64]) -> u64
+    ensures { result ≡ min (sum amounts.now) u64.MAX }
+{
+    amounts
+        .iter()
+        .fold(0u64, |sum, amount| sum.saturating_add(*amount))
 }
 
 // Whether a need is over its limit.
 fn some_over(needs: &[u64]) -> bool
     ensures { result ≡ some_over needs.now }
 {
-    for need in needs {
-        if *need > MOST_NEED {
-            return true;
-        }
-    }
-    false
+    needs.iter().any(|need| *need > MOST_NEED)
 }

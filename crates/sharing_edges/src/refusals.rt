@@ -8,7 +8,8 @@ use std::process::Abort;
 // What stands in the slice for shares before a call.
 const MARK: u64 = 77;
 
-// A pool, a need, how many places have it, how many places there are for shares, and the refusal's number, 0 for none.
+// A pool, a need, how many places have it, how many places there are for shares, and the
+// refusal's number, 0 for none.
 #[derive(Clone, Copy)]
 struct Case(u64, u64, usize, usize, u8);
 
@@ -41,15 +42,8 @@ fn asked<R: SharingRule>(rule: &R, case: Case) -> (u8, bool) {
         &needs[0..count.min(33)],
         &mut shares[0..places.min(33)],
     );
-    let number = match answer {
-        Ok(()) => 0,
-        Err(refusal) => refusal.number(),
-    };
-    let mut same = true;
-    for share in shares.iter() {
-        same = same && *share == MARK;
-    }
-    (number, same)
+    let number = answer.err().map_or(0, |refusal| refusal.number());
+    (number, shares.iter().all(|share| *share == MARK))
 }
 
 fn check_all<R: SharingRule>(rt: &impl Abort, rule: &R) {
@@ -88,11 +82,8 @@ fn parts_are_set_or_refused(rt: HostRuntime) {
         let mut parts = [0; 33];
         parts[0] = first;
         parts[1] = second;
-        let answer = match layer.set(&parts[0..count.min(33)]) {
-            Ok(()) => 0,
-            Err(refusal) => refusal.number(),
-        };
-        assert_eq!(rt; answer, number);
+        let answer = layer.set(&parts[0..count.min(33)]);
+        assert_eq!(rt; answer.err().map_or(0, |refusal| refusal.number()), number);
     }
 }
 

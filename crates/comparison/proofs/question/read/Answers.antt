@@ -1,6 +1,6 @@
 use Rattle.std.proofs.Common.{vec_items, arith, true-eqb, false-eqb}
 use Rattle.std.proofs.lemmas.Result.{err_from_is_err_and}
-use Rattle.comparison.proofs.Asking.{question_endless, question_no_row, question_no_need, question_no_parts, question_asked}
+use Rattle.comparison.proofs.Asking.{question_endless, question_no_row, question_no_need, question_no_parts}
 use Rattle.comparison.proofs.question.read.Goals as goal
 
 pub returns-in_default : goal.returns-in_default
@@ -23,9 +23,3 @@ returns-in_err-parts c =
     let some = false-eqb _ 0 c.if-is_empty.ensures in
     let long = c.remove-pool.new.self.ok.0 in
     rw (p.1, p.2) (question_no_parts c.args.text.now c.in-Some.first.now c.in-Some.rest.now c.in-Some.ensures (vec_items c.in_ok-needs.needs) (vec_items c.remove-pool.new.self) c.remove-pool.result c.in_ok-needs.ensures c.remove-pool.ensures.value c.remove-pool.ensures.items (omega (arith, some, long)) _ c.in_err-parts.ensures)
-
-pub returns : goal.returns
-returns c =
-    let some = false-eqb _ 0 c.if-is_empty.ensures in
-    let long = c.remove-pool.new.self.ok.0 in
-    question_asked c.args.text.now c.in-Some.first.now c.in-Some.rest.now c.in-Some.ensures (vec_items c.in_ok-needs.needs) (vec_items c.remove-pool.new.self) c.remove-pool.result c.in_ok-needs.ensures c.remove-pool.ensures.value c.remove-pool.ensures.items (omega (arith, some, long)) _ c.in_ok-parts.ensures

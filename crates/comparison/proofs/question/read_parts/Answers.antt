@@ -1,11 +1,7 @@
-use Rattle.std.proofs.Common.{length, arith, true-eqb, false-eqb}
+use Rattle.std.proofs.Common.{length, arith, false-eqb}
 use Rattle.std.proofs.lemmas.Result.{err_from_is_err_and}
-use Rattle.comparison.proofs.Asking.{no_parts_line, parts_endless, parts_no_row, parts_third, parts_line}
+use Rattle.comparison.proofs.Asking.{parts_endless, parts_no_row, parts_third}
 use Rattle.comparison.proofs.question.read_parts.Goals as goal
-
-pub returns-then-is_empty : goal.returns-then-is_empty
-returns-then-is_empty c =
-    no_parts_line c.args.text.now _ (true-eqb _ 0 c.if-is_empty.ensures) c.new.ensures.items
 
 pub returns-in_default : goal.returns-in_default
 returns-in_default c =
@@ -22,7 +18,3 @@ pub returns-then-not-is_empty : goal.returns-then-not-is_empty
 returns-then-not-is_empty c =
     let more = false-eqb (length c.in-Some.rest.now) 0 c.if-not-is_empty.ensures in
     parts_third c.args.text.now _ c.in-Some.rest.now c.in-Some.ensures _ c.wrong_at-then-not-is_empty.ensures _ c.in_ok-parts.ensures (omega arith)
-
-pub returns : goal.returns
-returns c =
-    parts_line c.args.text.now _ c.in-Some.rest.now c.in-Some.ensures _ c.in_ok-parts.ensures (true-eqb _ 0 c.if-not-is_empty.ensures)

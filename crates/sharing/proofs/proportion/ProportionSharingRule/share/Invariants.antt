@@ -5,6 +5,9 @@ use Rattle.sharing.proofs.proportion.ProportionSharingRule.share.Given as goal
 
 abbrev pub invariant-loop-place : goal.invariant-loop-place
 invariant-loop-place l =
-    (l.all ≤ 64000000)
-    × (l.before + sum (drop l.place l.needs) ≡ l.all)
-    × Begun l.shares l.place (portions l.given l.all l.before (drop l.place l.needs)) (proportion l.pool l.needs)
+    let to-come = drop l.place l.needs in
+    record {
+      small : l.all ≤ 64000000;
+      split : l.before + sum to-come ≡ l.all;
+      begun : Begun l.shares l.place (portions l.given l.all l.before to-come) (proportion l.pool l.needs);
+    }
