@@ -1,12 +1,14 @@
 -- Dates, and the days that they are.
-use Rattle.std.specs.Prelude.{◌≡◌, ℕ, zero, suc, ◌+◌, ◌-◌, ◌*◌, ◌%◌, ◌<◌, ◌≤◌, Bool, true, cond, ◌&&◌, Some, None, Option, MatchOption, ◌≢◌, nat_le, nat_lt, slice_index}
+use Rattle.std.specs.Prelude.{◌≡◌, ℕ, zero, suc, ◌+◌, ◌-◌, ◌*◌, ◌%◌, ◌<◌, ◌≤◌, Bool, true, ◌&&◌, if◌then◌else◌, Some, None, Option, MatchOption, ◌≢◌, nat_le, nat_lt, slice_index}
 use Rattle.calendar.specs.Gregorian.{first_day, length_of, lengths, lies_in, year_of}
 use Rattle.calendar.specs.declared.date.Date.{Date}
 
 -- a year from 2000 to 2099, a month from 1 to 12, and a day from 1 to as many as that month has
 abbrev pub is_date : Date → Bool
 is_date d =
-    nat_le 2000 d.year && (nat_le d.year 2099 && (nat_le 1 d.month && (nat_le d.month 12 && (nat_le 1 d.day && nat_le d.day (slice_index (lengths d.year) (d.month - 1))))))
+    nat_le 2000 d.year && (nat_le d.year 2099
+    && (nat_le 1 d.month && (nat_le d.month 12
+    && (nat_le 1 d.day && nat_le d.day (slice_index (lengths d.year) (d.month - 1))))))
 
 -- the month of a date, counted from January 2000
 abbrev pub month_of_date : Date → ℕ
@@ -18,7 +20,7 @@ day_number d = first_day (month_of_date d) + (d.day - 1)
 
 -- the day of what is a date, else none
 abbrev pub day_of_date : Date → Option ℕ
-day_of_date d = cond (is_date d) (Some (day_number d)) None
+day_of_date d = if is_date d then Some (day_number d) else None
 
 -- the date in a month so many days after its first
 abbrev pub date_in : (month after : ℕ) → Date
@@ -28,7 +30,7 @@ date_in month after = record { year = year_of month; month = month % 12 + 1; day
 unfoldable pub date_after : (months month after : ℕ) → Date
 date_after zero month after = date_in month after
 date_after (suc k) month after =
-    cond (nat_lt after (length_of month)) (date_in month after) (date_after k (month + 1) (after - length_of month))
+    if nat_lt after (length_of month) then date_in month after else date_after k (month + 1) (after - length_of month)
 
 -- the date of a day
 unfoldable pub date_of_day : ℕ → Date
