@@ -136,7 +136,12 @@ fn the_last_row_that_has_begun_is_in_force(rt: HostRuntime) {
     let schedule = Schedule { rows: &rows };
     for (month, price) in MONTHS.iter().copied() {
         assert_eq!(rt;
-            asked(&schedule, month, Service::Energy(Zone::Day), Class::Household),
+            asked(
+                &schedule,
+                month,
+                Service::Energy(Zone::Day),
+                Class::Household
+            ),
             price
         );
     }
