@@ -166,13 +166,25 @@ fn by_zone<T>(day: T, night: T) -> ByZone<T> {
 fn costs_and_credits(rt: HostRuntime) {
     let none = supply(0, 0);
     let most = supply(u64::MAX, u64::MAX);
-    assert_eq!(rt; cost_of(&TARIFF, 0, Class::Other, by_zone(none, none)), Some(0));
+    assert_eq!(rt;
+        cost_of(&TARIFF, 0, Class::Other, by_zone(none, none)),
+        Some(0)
+    );
     let supplies = by_zone(supply(300, 700), supply(33, 0));
     assert_eq!(rt;
         cost_of(&TARIFF, 288, Class::Household, supplies),
         Some(2_165_731)
     );
-    assert_eq!(rt; cost_of(&TARIFF, 0, Class::Other, by_zone(most, none)), None);
-    assert_eq!(rt; credit_of(&TARIFF, 11, Class::Other, by_zone(10, 20)), Some(50_000));
-    assert_eq!(rt; credit_of(&TARIFF, 11, Class::Other, by_zone(0, u64::MAX)), None);
+    assert_eq!(rt;
+        cost_of(&TARIFF, 0, Class::Other, by_zone(most, none)),
+        None
+    );
+    assert_eq!(rt;
+        credit_of(&TARIFF, 11, Class::Other, by_zone(10, 20)),
+        Some(50_000)
+    );
+    assert_eq!(rt;
+        credit_of(&TARIFF, 11, Class::Other, by_zone(0, u64::MAX)),
+        None
+    );
 }

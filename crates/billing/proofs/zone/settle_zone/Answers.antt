@@ -1,4 +1,4 @@
-use Rattle.std.proofs.Common.{◌≡◌, ◌-◌, length, take, Err, sum, sym, ap, ◌∙◌, ap₂, arith}
+use Rattle.std.proofs.Common.{◌-◌, length, Err, sum, sym, ap, ◌∙◌, ap₂}
 use Rattle.std.proofs.lemmas.Bool.{cond-true}
 use Rattle.sharing.specs.Fair.{less}
 use Rattle.sharing.specs.Refusals.{answer}
@@ -16,13 +16,12 @@ returns g c =
     let to_cover = length c.args.covered.now in
     let to_bill = length c.args.billed.now in
     let pool = pool_is (pool_of carried nets) c.in_ok-pool.pool c.in_ok-pool.ensures in
-    let all : length nets - 0 ≡ length nets = omega arith in
-    let ns = ap (λ n. take n c.needs_in-needs.result) all ∙ c.needs_in-needs.ensures in
+    let ns = c.deref.ensures.0 ∙ c.needs_in-needs.ensures in
     let shared = c.in_ok-share.ensures in
     let ok = sym (shared.answers ∙ ap₂ (λ p l. answer p l to_cover) pool ns) in
     let posted : Split share carried nets c.left_of.result c.share.new.shares c.bill.new.billed = record {
       covered_is = shared.writes ∙ ap₂ share pool ns;
-      billed_is = c.bill.ensures ∙ ap (λ l. less l c.share.new.shares) ns;
+      billed_is = c.bill.ensures ∙ ap (λ l. less l c.share.new.shares) (c.deref-2.ensures.0 ∙ c.needs_in-needs.ensures);
       left_is = c.left_of.ensures ∙ ap (λ p. p - sum c.share.new.shares) pool;
     } in
     record {
