@@ -48,10 +48,13 @@ fn bill(needs: &[u64], covered: &[u64], billed: &mut [u64])
     requires billed { length billed.old ≡ length needs.now }
     ensures { billed.new ≡ less needs.now covered.now }
 {
+    // Written by place: after `billed.iter_mut().zip(..)` a proof knows nothing of what was written.
     for (place, need) in needs.iter().enumerate() {
         billed[place] = need.saturating_sub(covered[place]);
     }
 }
+
+// Two slices and not one of pairs, since a rule writes its shares into a slice of numbers.
 
 /// Settles a zone's month by a rule: writes what each member is covered and billed and answers the new carried balance, or refuses and leaves both slices as they were.
 pub fn settle_zone<R: SharingRule>(
