@@ -48,9 +48,9 @@ fn bill(needs: &[u64], covered: &[u64], billed: &mut [u64])
     requires billed { length billed.old ≡ length needs.now }
     ensures { billed.new ≡ less needs.now covered.now }
 {
-    // Written by place: after a zip with `billed.iter_mut()` a proof knows nothing of what was written.
-    for (place, (need, covered)) in needs.iter().zip(covered).enumerate() {
-        billed[place] = need.saturating_sub(*covered);
+    // Written by place: after `billed.iter_mut().zip(..)` a proof knows nothing of what was written.
+    for (place, need) in needs.iter().enumerate() {
+        billed[place] = need.saturating_sub(covered[place]);
     }
 }
 
