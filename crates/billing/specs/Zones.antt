@@ -29,7 +29,8 @@ counted members to_cover to_bill =
     nat_lt 0 members && (nat_le members 32 && (to_cover == members && to_bill == members))
 
 -- whether a zone is settled: 7 where the members and the places do not match, else 8 where the pool or a need is too large
-abbrev pub zone_answer : (carried : ℕ) (nets : List ℤ) (to_cover to_bill : ℕ) → Result (Unit {0}) ShareRefusal
+abbrev pub zone_answer : (carried : ℕ) (nets : List ℤ) (to_cover to_bill : ℕ)
+    → Result (Unit {0}) ShareRefusal
 zone_answer carried nets to_cover to_bill =
     if counted (length nets) to_cover to_bill
     then answer (pool_of carried nets) (needs_of nets) to_cover
@@ -47,7 +48,8 @@ pub record Slices : Type 0 where
   pub billed : List ℕ
 
 -- what the settling of a zone answers and leaves in its slices
-abbrev pub Settled : (ℕ → List ℕ → List ℕ) → ℕ → List ℤ → Result ℕ ShareRefusal → (before after : Slices) → Type 0
+abbrev pub Settled : (ℕ → List ℕ → List ℕ) → ℕ → List ℤ → Result ℕ ShareRefusal
+    → (before after : Slices) → Type 0
 Settled share carried nets (Ok left) before after =
     (zone_answer carried nets (length before.covered) (length before.billed) ≡ Ok tt)
     × Split share carried nets left after.covered after.billed

@@ -30,7 +30,9 @@ date_in month after = record { year = year_of month; month = month % 12 + 1; day
 unfoldable pub date_after : (months month after : ℕ) → Date
 date_after zero month after = date_in month after
 date_after (suc k) month after =
-    if nat_lt after (length_of month) then date_in month after else date_after k (month + 1) (after - length_of month)
+    if nat_lt after (length_of month)
+    then date_in month after
+    else date_after k (month + 1) (after - length_of month)
 
 -- the date of a day
 unfoldable pub date_of_day : ℕ → Date
@@ -40,7 +42,8 @@ date_of_day day = date_after 1199 0 day
 abbrev pub MonthOf : ℕ → Option ℕ → Type 0
 MonthOf day r =
     MatchOption r (36524 < day)
-    (λ month. (month ≤ 1199) × (first_day month ≤ day) × (day < first_day (month + 1)) × ((m : ℕ) → lies_in day m ≡ true → m ≡ month))
+    (λ month. (month ≤ 1199) × (first_day month ≤ day) × (day < first_day (month + 1))
+    × ((m : ℕ) → lies_in day m ≡ true → m ≡ month))
 
 -- the one date that is this day, or none past the last day, which no date is
 abbrev pub DateOf : ℕ → Option Date → Type 0
@@ -50,5 +53,7 @@ DateOf day r =
 
 -- from a day to its date and back is the same day, and from a date to its day and back the same date
 pub record Agree : Type 0 where
-  pub day_date_day : (day : ℕ) (r : Option Date) → day ≤ 36524 → DateOf day r → MatchOption r ⊥ (λ d. day_of_date d ≡ Some day)
-  pub date_day_date : (d : Date) (day : ℕ) (r : Option Date) → day_of_date d ≡ Some day → DateOf day r → r ≡ Some d
+  pub day_date_day : (day : ℕ) (r : Option Date) → day ≤ 36524 → DateOf day r
+      → MatchOption r ⊥ (λ d. day_of_date d ≡ Some day)
+  pub date_day_date : (d : Date) (day : ℕ) (r : Option Date) → day_of_date d ≡ Some day → DateOf day r
+      → r ≡ Some d

@@ -18,7 +18,8 @@ pub struct Schedule<'a> {
 }
 
 impl<'a> Tariff for Schedule<'a> {
-    ghost price = { λ schedule month service class. capped (scheduled (in_force month schedule.rows.now) service class) };
+    ghost price = { λ schedule month service class.
+        capped (scheduled (in_force month schedule.rows.now) service class) };
 
     ghost bounded = { λ _ _ _ _. capped_bounded _ };
 
