@@ -1,28 +1,18 @@
--- One surplus more in the pool.
-use Rattle.std.proofs.Common.{◌≡◌, ℕ, ◌+◌, ◌<◌, ◌≤◌, cond, ltb, List, map, length, get_or, drop, ℤ, pos, Ok, Err, sum, sym, ap, ◌∙◌, ⊎_elim, arith}
-use Rattle.std.proofs.lemmas.List.{at_drop_more}
-use Rattle.std.proofs.lemmas.List.Sums.{sum_by-cons}
-use Rattle.std.proofs.lemmas.Bool.{cases_Bool, cond-false, cond-true, le-ltb, lt-ltb}
+-- The pool of a zone, as its surpluses are added up to the largest number.
+use Rattle.std.proofs.Common.{◌≡◌, ℕ, ◌+◌, leb, List, [], ◌∷◌, ◌++◌, min, ℤ, if◌then◌else◌, nat_lt, Ok, Err, arith}
+use Rattle.std.proofs.lemmas.Bool.Decides.{nat_tests}
+use Rattle.std.proofs.lemmas.Grind.{common_steps}
+use Rattle.std.specs.Bool.{then_some}
+use Rattle.std.specs.Option.{ok_or}
 use Rattle.sharing.specs.declared.refusal.ShareRefusal.TheVariants.{Size}
 use Rattle.billing.specs.Zones.{pool_of, surplus}
 
-pub pool_more : (pool : ℕ) (nets : List ℤ) (k : ℕ) → k < length nets → pool_of pool (drop k nets) ≡ pool_of (pool + surplus (get_or nets k (pos 0))) (drop (k + 1) nets)
-pool_more pool nets k within =
-    let net = get_or nets k (pos 0) in
-    let rest = drop (k + 1) nets in
-    let first = ap (λ l. sum (map surplus l)) (at_drop_more (λ l. l) nets k (pos 0) within) in
-    omega (arith, first, sum_by-cons (λ x. x) (surplus net) (map surplus rest))
+pub pool_more : (carried : ℕ) (before : List ℤ) (net : ℤ) → pool_of carried (before ++ net ∷ []) ≡ pool_of carried before + surplus net
+pool_more carried before net = grind (arith, common_steps)
 
-pub too_large : (pool : ℕ) → 1000000000 < pool → Err Size ≡ cond (ltb 1000000000 pool) (Err Size) (Ok pool)
-too_large pool over = sym (cond-true (ltb 1000000000 pool) (Err Size) (Ok pool) (lt-ltb 1000000000 pool over))
+-- the sum at the largest number is over the limit as the pool itself is
+pub within_limit : (pool : ℕ) → ok_or (then_some (leb (min pool 18446744073709551615) 1000000000) (min pool 18446744073709551615)) Size ≡ (if nat_lt 1000000000 pool then Err Size else Ok pool)
+within_limit pool = grind (arith, nat_tests)
 
-pub small_enough : (pool sum_up : ℕ) → sum_up ≡ pool → sum_up ≤ 1000000000 → Ok sum_up ≡ cond (ltb 1000000000 pool) (Err Size) (Ok pool)
-small_enough pool sum_up is within =
-    ap Ok is ∙ sym (cond-false (ltb 1000000000 pool) (Err Size) (Ok pool) (le-ltb 1000000000 pool (omega arith)))
-
-pub pool_is : (pool found : ℕ) → Ok found ≡ cond (ltb 1000000000 pool) (Err Size) (Ok pool) → found ≡ pool
-pool_is pool found is =
-    ⊎_elim
-    (λ holds. let over = is ∙ cond-true (ltb 1000000000 pool) (Err Size) (Ok pool) holds in let clash : ◌≡◌ {A = ℕ} 0 1 = cc in absurd (omega arith))
-    (λ fails. let same = is ∙ cond-false (ltb 1000000000 pool) (Err Size) (Ok pool) fails in cc)
-    (cases_Bool (ltb 1000000000 pool))
+pub pool_is : (pool found : ℕ) → Ok found ≡ (if nat_lt 1000000000 pool then Err Size else Ok pool) → found ≡ pool
+pool_is pool found is = grind (arith, nat_tests)

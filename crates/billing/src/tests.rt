@@ -4,6 +4,7 @@ use crate::cost::{cost_of, credit_of};
 use crate::net::{need_of, net_of, surplus_of};
 use crate::supply::Supply;
 use crate::zone::settle_zone;
+use ledger::zone::ByZone;
 use sharing::proportion::Proportion;
 use sharing::refusal::ShareRefusal;
 use tariff::class::Class;
@@ -134,11 +135,15 @@ fn postings_keep_every_hundredth(rt: HostRuntime) {
 }
 
 const PRICES: ClassPrices = ClassPrices {
-    day_energy: 4500,
-    night_energy: 3507,
+    energy: ByZone {
+        day: 4500,
+        night: 3507,
+    },
     distribution: 1000,
-    year_end_day: 2000,
-    year_end_night: 1500,
+    year_end: ByZone {
+        day: 2000,
+        night: 1500,
+    },
 };
 
 const TARIFF: FixedTariff = FixedTariff {
@@ -153,18 +158,33 @@ fn supply(billed: u64, covered: u64) -> Supply {
     Supply { billed, covered }
 }
 
+fn by_zone<T>(day: T, night: T) -> ByZone<T> {
+    ByZone { day, night }
+}
+
 #[test]
 fn costs_and_credits(rt: HostRuntime) {
     let none = supply(0, 0);
     let most = supply(u64::MAX, u64::MAX);
-    assert_eq!(rt; cost_of(&TARIFF, 0, Class::Other, none, none), Some(0));
-    let day = supply(300, 700);
-    let night = supply(33, 0);
     assert_eq!(rt;
-        cost_of(&TARIFF, 288, Class::Household, day, night),
+        cost_of(&TARIFF, 0, Class::Other, by_zone(none, none)),
+        Some(0)
+    );
+    let supplies = by_zone(supply(300, 700), supply(33, 0));
+    assert_eq!(rt;
+        cost_of(&TARIFF, 288, Class::Household, supplies),
         Some(2_165_731)
     );
-    assert_eq!(rt; cost_of(&TARIFF, 0, Class::Other, most, none), None);
-    assert_eq!(rt; credit_of(&TARIFF, 11, Class::Other, 10, 20), Some(50_000));
-    assert_eq!(rt; credit_of(&TARIFF, 11, Class::Other, 0, u64::MAX), None);
+    assert_eq!(rt;
+        cost_of(&TARIFF, 0, Class::Other, by_zone(most, none)),
+        None
+    );
+    assert_eq!(rt;
+        credit_of(&TARIFF, 11, Class::Other, by_zone(10, 20)),
+        Some(50_000)
+    );
+    assert_eq!(rt;
+        credit_of(&TARIFF, 11, Class::Other, by_zone(0, u64::MAX)),
+        None
+    );
 }

@@ -1,10 +1,11 @@
 //! A zone's month: its pool is shared among the needs, and what is left is carried on.
-ghost use Rattle.std.specs.Prelude.{◌≡◌, ◌≤◌, length, take, IfOk, if◌then◌else◌, Ok, Err, nat_lt};
+ghost use Rattle.std.specs.Prelude.{◌≡◌, ◌≤◌, length, IfOk, if◌then◌else◌, Ok, Err, nat_lt};
 ghost use Rattle.sharing.specs.Fair.{less};
 ghost use Rattle.sharing.specs.declared.refusal.ShareRefusal.TheVariants.{Size};
 ghost use Rattle.billing.specs.Zones.{Balances, Settled, counted, needs_of, pool_of};
 
 use crate::net::{need_of, surplus_of};
+use arrayvec::ArrayVec;
 use sharing::refusal::ShareRefusal;
 use sharing::rule::{MOST_POOL, PLACES, SharingRule, left_of};
 
@@ -15,33 +16,30 @@ fn is_counted(members: usize, to_cover: usize, to_bill: usize) -> bool
     members > 0 && members <= PLACES && to_cover == members && to_bill == members
 }
 
-// The needs of the nets, in a table of all places.
-fn needs_in(nets: &[i64]) -> [u64; PLACES]
+// The needs of the nets.
+fn needs_in(nets: &[i64]) -> ArrayVec<u64, PLACES>
     requires { length nets.now ≤ 32 }
-    ensures { take (length nets.now) result ≡ needs_of nets.now }
+    ensures { result.items ≡ needs_of nets.now }
 {
-    let mut needs = [0; PLACES];
-    for (place, net) in nets.iter().enumerate() {
-        needs[place] = need_of(*net);
+    let mut needs = ArrayVec::new();
+    for net in nets {
+        needs.push(need_of(*net));
     }
     needs
 }
 
 // The pool of a zone, or the refusal of one that is too large to be shared.
 fn pool_in(carried: u64, nets: &[i64]) -> Result<u64, ShareRefusal>
-    ensures { result ≡ (if nat_lt 1000000000 (pool_of carried nets.now) then Err Size else Ok (pool_of carried nets.now)) }
+    ensures { let pool = pool_of carried nets.now in
+        result ≡ (if nat_lt 1000000000 pool then Err Size else Ok pool) }
 {
-    let mut pool = carried;
-    if pool > MOST_POOL {
-        return Err(ShareRefusal::Size);
-    }
-    for net in nets {
-        pool += surplus_of(*net);
-        if pool > MOST_POOL {
-            return Err(ShareRefusal::Size);
-        }
-    }
-    Ok(pool)
+    // A sum past 64 bits stays at the largest number, which is over the limit as well.
+    let pool = nets
+        .iter()
+        .fold(carried, |pool, net| pool.saturating_add(surplus_of(*net)));
+    (pool <= MOST_POOL)
+        .then_some(pool)
+        .ok_or(ShareRefusal::Size)
 }
 
 // Writes what is left of each need after its cover.
@@ -50,10 +48,13 @@ fn bill(needs: &[u64], covered: &[u64], billed: &mut [u64])
     requires billed { length billed.old ≡ length needs.now }
     ensures { billed.new ≡ less needs.now covered.now }
 {
+    // Written by place: after `billed.iter_mut().zip(..)` a proof knows nothing of what was written.
     for (place, need) in needs.iter().enumerate() {
         billed[place] = need.saturating_sub(covered[place]);
     }
 }
+
+// Two slices and not one of pairs, since a rule writes its shares into a slice of numbers.
 
 /// Settles a zone's month by a rule: writes what each member is covered and billed and answers the new carried balance, or refuses and leaves both slices as they were.
 pub fn settle_zone<R: SharingRule>(
@@ -63,16 +64,18 @@ pub fn settle_zone<R: SharingRule>(
     covered: &mut [u64],
     billed: &mut [u64],
 ) -> Result<u64, ShareRefusal>
-    ensures settled { Settled (R.SharingRule.sharing rule.now) carried nets.now result (record { covered = covered.old; billed = billed.old }) (record { covered = covered.new; billed = billed.new }) }
-    ensures balances { IfOk result (λ left. Balances carried nets.now left covered.new billed.new) }
+    ensures settled { Settled (R.SharingRule.sharing rule.now) carried nets.now result
+        (record { covered = covered.old; billed = billed.old })
+        (record { covered = covered.new; billed = billed.new }) }
+    ensures balances { IfOk result
+        (λ left. Balances carried nets.now left covered.new billed.new) }
 {
-    let members = nets.len();
-    if !is_counted(members, covered.len(), billed.len()) {
+    if !is_counted(nets.len(), covered.len(), billed.len()) {
         return Err(ShareRefusal::Count);
     }
     let needs = needs_in(nets);
     let pool = pool_in(carried, nets)?;
-    rule.share(pool, &needs[0..members], covered)?;
-    bill(&needs[0..members], covered, billed);
+    rule.share(pool, &needs, covered)?;
+    bill(&needs, covered, billed);
     Ok(left_of(pool, covered))
 }

@@ -1,6 +1,7 @@
 -- The date of a day, as a function, is the one date that is this day.
-use Rattle.std.proofs.Common.{◌≡◌, ℕ, zero, suc, ◌+◌, ◌-◌, ◌<◌, ◌≤◌, cond, ltb, leb, Some, None, sym, ap, ◌∙◌, subst, ⊎_elim, arith}
-use Rattle.std.proofs.lemmas.Bool.{cases_lt, cond_both, cond-false, cond-true, le-leb, lt-leb, ltb-false, ltb-true}
+use Rattle.std.proofs.Common.{◌≡◌, ℕ, zero, suc, ◌+◌, ◌-◌, ◌<◌, ◌≤◌, ltb, if◌then◌else◌, nat_le, Some, None, ap, subst, ⊎_elim, arith}
+use Rattle.std.proofs.lemmas.Bool.{cases_lt, cond_both, ltb-false, ltb-true}
+use Rattle.std.proofs.lemmas.Bool.Decides.{nat_tests}
 use Rattle.calendar.proofs.Months.{first_next, last_first, usual_length}
 use Rattle.calendar.proofs.Numbered.{date_found, lies, one_date, past_the_last}
 use Rattle.calendar.specs.Dates.{date_after, date_in, date_of_day, day_of_date}
@@ -46,9 +47,8 @@ pub same_date : (d : Date) (day : ℕ) → day_of_date d ≡ Some day → d ≡ 
 same_date d day is = (one_date (date_of_day day) day (dated day (early_enough d day is))).1 d is
 
 -- what is answered of a day
-pub named : (d : Date) (day : ℕ) → day_of_date d ≡ Some day → Some d ≡ cond (leb day 36524) (Some (date_of_day day)) None
-named d day is =
-    ap Some (same_date d day is) ∙ sym (cond-true (leb day 36524) (Some (date_of_day day)) None (le-leb day 36524 (early_enough d day is)))
+pub named : (d : Date) (day : ℕ) → day_of_date d ≡ Some day → Some d ≡ (if nat_le day 36524 then Some (date_of_day day) else None)
+named d day is = let same = same_date d day is in let early = early_enough d day is in grind (arith, nat_tests)
 
-pub unnamed : (day : ℕ) → 36524 < day → None ≡ cond (leb day 36524) (Some (date_of_day day)) None
-unnamed day past = sym (cond-false (leb day 36524) (Some (date_of_day day)) None (lt-leb day 36524 past))
+pub unnamed : (day : ℕ) → 36524 < day → None ≡ (if nat_le day 36524 then Some (date_of_day day) else None)
+unnamed day past = grind (arith, nat_tests)

@@ -1,6 +1,6 @@
 -- A date and its day determine each other.
-use Rattle.std.proofs.Common.{◌≡◌, ℕ, ◌+◌, ◌-◌, ◌/◌, ◌%◌, ◌<◌, ◌≤◌, true, ◌⊎◌, get_or, Some, None, Option, sym, ap, ◌∙◌, ap₂, ⊎_elim, arith, MatchOption}
-use Rattle.std.proofs.lemmas.Bool.{and_from, and_parts, cases_Bool, cond-false, cond-true, le-leb, leb-true}
+use Rattle.std.proofs.Common.{◌≡◌, ℕ, ◌+◌, ◌-◌, ◌/◌, ◌%◌, ◌<◌, ◌≤◌, true, get_or, Some, None, Option, sym, ap, ◌∙◌, ap₂, arith, MatchOption}
+use Rattle.std.proofs.lemmas.Bool.Decides.{nat_tests}
 use Rattle.calendar.specs.Dates.{Agree, DateOf, date_in, day_number, day_of_date, is_date, month_of_date}
 use Rattle.calendar.specs.Gregorian.{first_day, length_of, lengths}
 use Rattle.calendar.specs.declared.date.Date.{Date}
@@ -16,28 +16,17 @@ pub record Real (d : Date) : Type 0 where
   pub day_to : d.day ≤ get_or (lengths d.year) (d.month - 1) 0
 
 pub real : (d : Date) → is_date d ≡ true → Real d
-real d holds =
-    let a = and_parts _ _ holds in
-    let b = and_parts _ _ a.1 in
-    let c = and_parts _ _ b.1 in
-    let e = and_parts _ _ c.1 in
-    let f = and_parts _ _ e.1 in
-    record {
-      year_from = leb-true _ _ a.0;
-      year_to = leb-true _ _ b.0;
-      month_from = leb-true _ _ c.0;
-      month_to = leb-true _ _ e.0;
-      day_from = leb-true _ _ f.0;
-      day_to = leb-true _ _ f.1;
-    }
+real d holds = record {
+  year_from = grind (arith, nat_tests);
+  year_to = grind (arith, nat_tests);
+  month_from = grind (arith, nat_tests);
+  month_to = grind (arith, nat_tests);
+  day_from = grind (arith, nat_tests);
+  day_to = grind (arith, nat_tests);
+}
 
 pub is_real : (d : Date) → Real d → is_date d ≡ true
-is_real d r =
-    and_from _ _ (le-leb _ _ r.year_from)
-    (and_from _ _ (le-leb _ _ r.year_to)
-    (and_from _ _ (le-leb _ _ r.month_from)
-    (and_from _ _ (le-leb _ _ r.month_to)
-    (and_from _ _ (le-leb _ _ r.day_from) (le-leb _ _ r.day_to)))))
+is_real d r = grind (arith, nat_tests)
 
 -- the length of a date's month
 pub length_at : (d : Date) → 2000 ≤ d.year → 1 ≤ d.month → d.month ≤ 12 → get_or (lengths d.year) (d.month - 1) 0 ≡ length_of (month_of_date d)
@@ -52,17 +41,11 @@ module _ (d : Date) (year_from : 2000 ≤ d.year) (year_to : d.year ≤ 2099) (m
   month_long : get_or (lengths d.year) (d.month - 1) 0 ≡ first_day (month_of_date d + 1) - first_day (month_of_date d)
   month_long = omega (arith, length_at d year_from month_from month_to, first_next (month_of_date d))
 
-  pub no_such_day : (d.day < 1) ⊎ (first_day (month_of_date d + 1) - first_day (month_of_date d) < d.day) → None ≡ day_of_date d
-  no_such_day out =
-      ⊎_elim
-      (λ holds. let r = real d holds in absurd (⊎_elim (λ early. omega (arith, r.day_from)) (λ late. omega (arith, r.day_to, month_long)) out))
-      (λ fails. sym (cond-false (is_date d) (Some (day_number d)) None fails))
-      (cases_Bool (is_date d))
+  pub no_such_day : first_day (month_of_date d + 1) - first_day (month_of_date d) < d.day → None ≡ day_of_date d
+  no_such_day late = let long = month_long in grind (arith, nat_tests)
 
   pub such_a_day : 1 ≤ d.day → d.day ≤ first_day (month_of_date d + 1) - first_day (month_of_date d) → Some (day_number d) ≡ day_of_date d
-  such_a_day from to =
-      let holds = is_real d (record { year_from = year_from; year_to = year_to; month_from = month_from; month_to = month_to; day_from = from; day_to = omega (arith, month_long) }) in
-      sym (cond-true (is_date d) (Some (day_number d)) None holds)
+  such_a_day from to = let long = month_long in grind (arith, nat_tests)
 
 -- the day of a date lies in its month
 pub record Lies (d : Date) (day : ℕ) : Type 0 where
@@ -72,10 +55,7 @@ pub record Lies (d : Date) (day : ℕ) : Type 0 where
   pub ahead : day < first_day (month_of_date d + 1)
 
 number_of : (d : Date) (day : ℕ) → day_of_date d ≡ Some day → (is_date d ≡ true) × (day_number d ≡ day)
-number_of d day is =
-    ⊎_elim (λ holds. let same = sym (cond-true (is_date d) (Some (day_number d)) None holds) ∙ is in (holds, cc))
-    (λ fails. let none = sym (cond-false (is_date d) (Some (day_number d)) None fails) ∙ is in let clash : ◌≡◌ {A = ℕ} 0 1 = cc in absurd (omega arith))
-    (cases_Bool (is_date d))
+number_of d day is = (grind (arith, nat_tests), grind (arith, nat_tests))
 
 pub lies : (d : Date) (day : ℕ) → day_of_date d ≡ Some day → Lies d day
 lies d day is =

@@ -1,12 +1,14 @@
 -- Dates, and the days that they are.
-use Rattle.std.specs.Prelude.{◌≡◌, ℕ, zero, suc, ◌+◌, ◌-◌, ◌*◌, ◌%◌, ◌<◌, ◌≤◌, Bool, true, cond, ◌&&◌, Some, None, Option, MatchOption, ◌≢◌, nat_le, nat_lt, slice_index}
+use Rattle.std.specs.Prelude.{◌≡◌, ℕ, zero, suc, ◌+◌, ◌-◌, ◌*◌, ◌%◌, ◌<◌, ◌≤◌, Bool, true, ◌&&◌, if◌then◌else◌, Some, None, Option, MatchOption, ◌≢◌, nat_le, nat_lt, slice_index}
 use Rattle.calendar.specs.Gregorian.{first_day, length_of, lengths, lies_in, year_of}
 use Rattle.calendar.specs.declared.date.Date.{Date}
 
 -- a year from 2000 to 2099, a month from 1 to 12, and a day from 1 to as many as that month has
 abbrev pub is_date : Date → Bool
 is_date d =
-    nat_le 2000 d.year && (nat_le d.year 2099 && (nat_le 1 d.month && (nat_le d.month 12 && (nat_le 1 d.day && nat_le d.day (slice_index (lengths d.year) (d.month - 1))))))
+    nat_le 2000 d.year && (nat_le d.year 2099
+    && (nat_le 1 d.month && (nat_le d.month 12
+    && (nat_le 1 d.day && nat_le d.day (slice_index (lengths d.year) (d.month - 1))))))
 
 -- the month of a date, counted from January 2000
 abbrev pub month_of_date : Date → ℕ
@@ -18,7 +20,7 @@ day_number d = first_day (month_of_date d) + (d.day - 1)
 
 -- the day of what is a date, else none
 abbrev pub day_of_date : Date → Option ℕ
-day_of_date d = cond (is_date d) (Some (day_number d)) None
+day_of_date d = if is_date d then Some (day_number d) else None
 
 -- the date in a month so many days after its first
 abbrev pub date_in : (month after : ℕ) → Date
@@ -28,7 +30,9 @@ date_in month after = record { year = year_of month; month = month % 12 + 1; day
 unfoldable pub date_after : (months month after : ℕ) → Date
 date_after zero month after = date_in month after
 date_after (suc k) month after =
-    cond (nat_lt after (length_of month)) (date_in month after) (date_after k (month + 1) (after - length_of month))
+    if nat_lt after (length_of month)
+    then date_in month after
+    else date_after k (month + 1) (after - length_of month)
 
 -- the date of a day
 unfoldable pub date_of_day : ℕ → Date
@@ -38,7 +42,8 @@ date_of_day day = date_after 1199 0 day
 abbrev pub MonthOf : ℕ → Option ℕ → Type 0
 MonthOf day r =
     MatchOption r (36524 < day)
-    (λ month. (month ≤ 1199) × (first_day month ≤ day) × (day < first_day (month + 1)) × ((m : ℕ) → lies_in day m ≡ true → m ≡ month))
+    (λ month. (month ≤ 1199) × (first_day month ≤ day) × (day < first_day (month + 1))
+    × ((m : ℕ) → lies_in day m ≡ true → m ≡ month))
 
 -- the one date that is this day, or none past the last day, which no date is
 abbrev pub DateOf : ℕ → Option Date → Type 0
@@ -48,5 +53,7 @@ DateOf day r =
 
 -- from a day to its date and back is the same day, and from a date to its day and back the same date
 pub record Agree : Type 0 where
-  pub day_date_day : (day : ℕ) (r : Option Date) → day ≤ 36524 → DateOf day r → MatchOption r ⊥ (λ d. day_of_date d ≡ Some day)
-  pub date_day_date : (d : Date) (day : ℕ) (r : Option Date) → day_of_date d ≡ Some day → DateOf day r → r ≡ Some d
+  pub day_date_day : (day : ℕ) (r : Option Date) → day ≤ 36524 → DateOf day r
+      → MatchOption r ⊥ (λ d. day_of_date d ≡ Some day)
+  pub date_day_date : (d : Date) (day : ℕ) (r : Option Date) → day_of_date d ≡ Some day → DateOf day r
+      → r ≡ Some d

@@ -1,5 +1,5 @@
 -- The Gregorian calendar, with months and days counted from 0, which is January 2000 and 1 January 2000.
-use Rattle.std.specs.Prelude.{ℕ, zero, suc, ◌+◌, ◌/◌, ◌%◌, Bool, cond, not, ◌&&◌, ◌||◌, List, [], ◌∷◌, ◌==◌, nat_le, nat_lt, slice_index}
+use Rattle.std.specs.Prelude.{ℕ, zero, suc, ◌+◌, ◌/◌, ◌%◌, Bool, not, ◌&&◌, ◌||◌, if◌then◌else◌, List, [], ◌∷◌, ◌==◌, nat_le, nat_lt, slice_index}
 
 -- every fourth year is a leap year, but of the hundredth years only every fourth
 abbrev pub leap : ℕ → Bool
@@ -7,7 +7,8 @@ leap year = year % 4 == 0 && (not (year % 100 == 0) || year % 400 == 0)
 
 -- how many days the months of a year have, from January to December
 abbrev pub lengths : ℕ → List ℕ
-lengths year = 31 ∷ cond (leap year) 29 28 ∷ 31 ∷ 30 ∷ 31 ∷ 30 ∷ 31 ∷ 31 ∷ 30 ∷ 31 ∷ 30 ∷ 31 ∷ []
+lengths year =
+    31 ∷ (if leap year then 29 else 28) ∷ 31 ∷ 30 ∷ 31 ∷ 30 ∷ 31 ∷ 31 ∷ 30 ∷ 31 ∷ 30 ∷ 31 ∷ []
 
 -- the year of a month
 abbrev pub year_of : ℕ → ℕ
@@ -24,4 +25,5 @@ first_day (suc month) = first_day month + length_of month
 
 -- the day lies in the month, which is one of the 1,200 from January 2000 to December 2099
 abbrev pub lies_in : (day month : ℕ) → Bool
-lies_in day month = nat_le month 1199 && (nat_le (first_day month) day && nat_lt day (first_day (month + 1)))
+lies_in day month =
+    nat_le month 1199 && (nat_le (first_day month) day && nat_lt day (first_day (month + 1)))

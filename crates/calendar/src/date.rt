@@ -24,6 +24,8 @@ pub struct Date {
     pub day: u8,
 }
 
+// A day is a plain number, so `TryFrom<Date> for u32` would say less than these two names.
+
 /// The day of a date, or none where it is no date from 2000-01-01 to 2099-12-31.
 pub fn day_of(date: Date) -> Option<Day>
     ensures { result ≡ day_of_date date }
@@ -40,10 +42,7 @@ pub fn day_of(date: Date) -> Option<Day>
     // The table has the month's length, so that the leap years need no test here.
     let length = first(month + 1) - begins;
     let after = (date.day as Day).checked_sub(1)?;
-    if after >= length {
-        return None;
-    }
-    Some(begins + after)
+    (after < length).then(|| begins + after)
 }
 
 /// The date of a day, or none past the last day; dates and days agree, there and back.

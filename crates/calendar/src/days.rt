@@ -1,5 +1,5 @@
 //! Days and months by their numbers: day 0 is 1 January 2000, and month 0 is January 2000.
-ghost use Rattle.std.specs.Prelude.{◌≡◌, ◌≤◌, if◌then◌else◌, Some, None, nat_le};
+ghost use Rattle.std.specs.Prelude.{◌≡◌, ◌≤◌, ◌↔◌, IsTrue, if◌then◌else◌, Some, None, nat_le};
 ghost use Rattle.calendar.specs.Dates.{MonthOf};
 ghost use Rattle.calendar.specs.Gregorian.{first_day, lies_in};
 
@@ -29,11 +29,7 @@ pub(crate) fn first(month: Month) -> Day
 pub fn first_day_of(month: Month) -> Option<Day>
     ensures { result ≡ (if nat_le month 1199 then Some (first_day month) else None) }
 {
-    if month <= LAST_MONTH {
-        Some(first(month))
-    } else {
-        None
-    }
+    (month <= LAST_MONTH).then(|| first(month))
 }
 
 /// Whether a day lies in a month; none lies in a month past the last.
@@ -47,19 +43,11 @@ pub fn is_in(day: Day, month: Month) -> bool
 pub fn month_of(day: Day) -> Option<Month>
     ensures { MonthOf day result }
 {
-    if day > LAST_DAY {
-        return None;
-    }
-    // The month is searched between one that has begun and one that has not.
-    let mut begun = 0;
-    let mut ahead = LAST_MONTH + 1;
-    while ahead - begun > 1 {
-        let middle = (begun + ahead) / 2;
-        if first(middle) <= day {
-            begun = middle;
-        } else {
-            ahead = middle;
-        }
-    }
-    Some(begun)
+    // January 2000 has begun on each day, so the month's number is how many later months have.
+    let month = FIRST_DAYS[1..].partition_point(
+        |first|
+            ensures { IsTrue result ↔ (first.now ≤ day) }
+        { *first <= day },
+    );
+    (day <= LAST_DAY).then_some(month as Month)
 }

@@ -1,5 +1,5 @@
 -- A schedule of prices: which row is in force in a month, and the price by it.
-use Rattle.std.specs.Prelude.{ℕ, Bool, cond, List, Some, None, fold, Option, nat_le}
+use Rattle.std.specs.Prelude.{ℕ, Bool, if◌then◌else◌, List, Some, None, fold, Option, nat_le}
 use Rattle.tariff.specs.Charges.{stored}
 use Rattle.tariff.specs.declared.class.Class.{Class}
 use Rattle.tariff.specs.declared.row.Row.{Row}
@@ -11,7 +11,7 @@ has_begun month row = nat_le row.first_month month
 
 -- the row in force: the last in the list that has begun, whatever the order of the first months
 abbrev pub in_force : ℕ → List Row → Option Row
-in_force month = fold (λ last row. cond (has_begun month row) (Some row) last) None
+in_force month = fold (λ last row. if has_begun month row then Some row else last) None
 
 -- the stored price by the row in force, which is 0 where there is none
 abbrev pub scheduled : Option Row → Service → Class → ℕ

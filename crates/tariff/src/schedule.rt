@@ -18,15 +18,13 @@ pub struct Schedule<'a> {
 }
 
 impl<'a> Tariff for Schedule<'a> {
-    ghost price = { λ schedule month service class. capped (scheduled (in_force month schedule.rows.now) service class) };
+    ghost price = { λ schedule month service class.
+        capped (scheduled (in_force month schedule.rows.now) service class) };
 
     ghost bounded = { λ _ _ _ _. capped_bounded _ };
 
     fn price_of(&self, month: Month, service: Service, class: Class) -> u32 {
-        match row_in_force(self.rows, month) {
-            Some(row) => charge(&row.prices, service, class),
-            None => 0,
-        }
+        row_in_force(self.rows, month).map_or(0, |row| charge(&row.prices, service, class))
     }
 }
 
@@ -34,13 +32,7 @@ impl<'a> Tariff for Schedule<'a> {
 fn row_in_force(rows: &[Row], month: Month) -> Option<Row>
     ensures { result ≡ in_force month rows.now }
 {
-    let mut last = None;
-    for row in rows {
-        if has_begun(row, month) {
-            last = Some(*row);
-        }
-    }
-    last
+    rows.iter().rev().find(|row| has_begun(row, month)).copied()
 }
 
 // Whether a row's first month is the month asked or before it.

@@ -1,16 +1,13 @@
 //! The services that a tariff prices.
+use ledger::zone::Zone;
 
 /// A service with a price for each kWh.
 #[derive(Clone, Copy, PartialEq, Eq, Debug)]
 pub enum Service {
-    /// Energy by day.
-    DayEnergy,
-    /// Energy by night.
-    NightEnergy,
+    /// Energy in a zone.
+    Energy(Zone),
     /// Distribution.
     Distribution,
-    /// The year-end price by day.
-    YearEndDay,
-    /// The year-end price by night.
-    YearEndNight,
+    /// The year-end price in a zone.
+    YearEnd(Zone),
 }

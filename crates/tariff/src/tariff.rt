@@ -14,10 +14,11 @@ pub const MOST_PRICE: u32 = 100_000;
 pub trait Tariff {
     ghost price: { Self → ℕ → Service → Class → ℕ };
 
-    // No price is over the highest; a member holds the proof, since no proof is generated of a law where a tariff borrows.
-    ghost bounded: { (tariff : Self) (month : ℕ) (service : Service) (class : Class) → price tariff month service class ≤ 100000 };
-
     /// The price in a month, in hundredths of a dram for each kWh.
     fn price_of(&self, month: Month, service: Service, class: Class) -> u32
         ensures { result ≡ price self.now month service class };
+
+    // No price is over the highest.
+    ghost bounded: { (tariff : Self) (month : ℕ) (service : Service) (class : Class)
+        → price tariff month service class ≤ 100000 };
 }

@@ -7,16 +7,21 @@ use crate::schedule::Schedule;
 use crate::service::Service;
 use crate::tariff::Tariff;
 use calendar::days::Month;
+use ledger::zone::{ByZone, Zone};
 
 // Five prices that count up.
 fn class_from(first: u16) -> ClassPrices {
     let first = first as u32;
     ClassPrices {
-        day_energy: first,
-        night_energy: first + 1,
+        energy: ByZone {
+            day: first,
+            night: first + 1,
+        },
         distribution: first + 2,
-        year_end_day: first + 3,
-        year_end_night: first + 4,
+        year_end: ByZone {
+            day: first + 3,
+            night: first + 4,
+        },
     }
 }
 
@@ -35,21 +40,21 @@ fn asked<T: Tariff>(tariff: &T, month: Month, service: Service, class: Class) ->
 }
 
 const PLACES: [(Service, Class, u32); 15] = [
-    (Service::DayEnergy, Class::Household, 100),
-    (Service::NightEnergy, Class::Household, 101),
+    (Service::Energy(Zone::Day), Class::Household, 100),
+    (Service::Energy(Zone::Night), Class::Household, 101),
     (Service::Distribution, Class::Household, 102),
-    (Service::YearEndDay, Class::Household, 103),
-    (Service::YearEndNight, Class::Household, 104),
-    (Service::DayEnergy, Class::Other, 105),
-    (Service::NightEnergy, Class::Other, 106),
+    (Service::YearEnd(Zone::Day), Class::Household, 103),
+    (Service::YearEnd(Zone::Night), Class::Household, 104),
+    (Service::Energy(Zone::Day), Class::Other, 105),
+    (Service::Energy(Zone::Night), Class::Other, 106),
     (Service::Distribution, Class::Other, 107),
-    (Service::YearEndDay, Class::Other, 108),
-    (Service::YearEndNight, Class::Other, 109),
-    (Service::DayEnergy, Class::Vulnerable, 110),
-    (Service::NightEnergy, Class::Vulnerable, 111),
+    (Service::YearEnd(Zone::Day), Class::Other, 108),
+    (Service::YearEnd(Zone::Night), Class::Other, 109),
+    (Service::Energy(Zone::Day), Class::Vulnerable, 110),
+    (Service::Energy(Zone::Night), Class::Vulnerable, 111),
     (Service::Distribution, Class::Vulnerable, 112),
-    (Service::YearEndDay, Class::Vulnerable, 113),
-    (Service::YearEndNight, Class::Vulnerable, 114),
+    (Service::YearEnd(Zone::Day), Class::Vulnerable, 113),
+    (Service::YearEnd(Zone::Night), Class::Vulnerable, 114),
 ];
 
 #[test]
@@ -131,7 +136,12 @@ fn the_last_row_that_has_begun_is_in_force(rt: HostRuntime) {
     let schedule = Schedule { rows: &rows };
     for (month, price) in MONTHS.iter().copied() {
         assert_eq!(rt;
-            asked(&schedule, month, Service::DayEnergy, Class::Household),
+            asked(
+                &schedule,
+                month,
+                Service::Energy(Zone::Day),
+                Class::Household
+            ),
             price
         );
     }
@@ -141,14 +151,14 @@ fn the_last_row_that_has_begun_is_in_force(rt: HostRuntime) {
 fn without_rows_every_price_is_0(rt: HostRuntime) {
     let schedule = Schedule { rows: &[] };
     assert_eq!(rt;
-        asked(&schedule, 0, Service::DayEnergy, Class::Household),
+        asked(&schedule, 0, Service::Energy(Zone::Day), Class::Household),
         0
     );
     assert_eq!(rt;
         asked(
             &schedule,
             u16::MAX,
-            Service::YearEndNight,
+            Service::YearEnd(Zone::Night),
             Class::Vulnerable,
         ),
         0

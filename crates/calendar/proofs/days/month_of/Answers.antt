@@ -1,12 +1,12 @@
-use Rattle.std.proofs.Common.{◌≡◌, ◌+◌, ◌<◌, subst, arith}
-use Rattle.calendar.specs.Gregorian.{first_day}
-use Rattle.calendar.proofs.Months.{only_month}
+use Rattle.std.proofs.Common.{leb, rules, subst, sym}
+use Rattle.std.proofs.lemmas.List.Sorted.{IsPartitionPoint-from_clause, IsPartitionedBy-leb}
+use Rattle.calendar.proofs.Entries.{later, later_rise, month_found}
+use Rattle.calendar.specs.Dates.{MonthOf}
 use Rattle.calendar.proofs.days.month_of.Goals as goal
 
 pub returns : goal.returns
 returns c =
-    let month = c.loop-ahead.begun in
-    let inv = c.loop-ahead.invariant in
-    let next : c.loop-ahead.ahead ≡ month + 1 = omega (arith, inv.0, c.loop-ahead-test.false) in
-    let ahead = subst (λ m. c.args.day < first_day m) next inv.3 in
-    (omega (arith, inv.0, inv.1), inv.2, ahead, only_month month c.args.day inv.2 ahead)
+    let day = c.args.day in
+    let call = c.partition_point-month in
+    let split = IsPartitionPoint-from_clause (λ first. leb first day) later call.result call.ensures.partitioned (IsPartitionedBy-leb (λ first. first) later day later_rise) (λ a r f' k. search rules) in
+    subst (MonthOf day) (sym c.then_some.ensures) (month_found day call.result call.ensures.bound split)

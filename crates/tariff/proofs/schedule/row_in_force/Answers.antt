@@ -1,10 +1,12 @@
-use Rattle.std.proofs.Common.{rules}
-use Rattle.std.proofs.lemmas.List.{take_all}
-use Rattle.std.proofs.lemmas.List.Sums.{fold_more}
+use Rattle.std.proofs.Common.{◌∙◌, rules, tests}
+use Rattle.std.proofs.lemmas.Iterator.Adapters.{YieldsList-from_rev_slice}
+use Rattle.std.proofs.lemmas.Iterator.Search.{find_from_yields_List}
+use Rattle.tariff.proofs.Rows.{last_of_all}
+use Rattle.tariff.specs.Schedules.{has_begun}
 use Rattle.tariff.proofs.schedule.row_in_force.Goals as goal
 
-pub loop-row-preserved : goal.loop-row-preserved
-loop-row-preserved c = search (rules, fold_more)
-
 pub returns : goal.returns
-returns c = search (rules, take_all)
+returns c =
+    let rows = c.args.rows.now in
+    let found = find_from_yields_List (has_begun c.args.month) _ _ c.find.result c.find.ensures.ran (YieldsList-from_rev_slice rows cc) (λ x b q k. search (rules, tests)) in
+    c.copied.ensures ∙ found ∙ last_of_all (has_begun c.args.month) rows
