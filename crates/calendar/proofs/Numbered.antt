@@ -25,9 +25,6 @@ real d holds = record {
   day_to = grind (arith, nat_tests);
 }
 
-pub is_real : (d : Date) → Real d → is_date d ≡ true
-is_real d r = grind (arith, nat_tests)
-
 -- the length of a date's month
 pub length_at : (d : Date) → 2000 ≤ d.year → 1 ≤ d.month → d.month ≤ 12 → get_or (lengths d.year) (d.month - 1) 0 ≡ length_of (month_of_date d)
 length_at d year from to =

@@ -13,6 +13,8 @@ const TEN: u8 = 10;
 
 const HUNDRED: u16 = 100;
 
+// Functions and no `TryFrom`: a day and a month are plain numbers, and a conversion to them would not say of what.
+
 /// The day of the date that `part` spells as 2024-01-31, or none where it spells no date from 2000-01-01 to 2099-12-31.
 pub fn day(part: &[u8]) -> Option<Day>
     ensures { Reads (λ d. d ≤ 36524) day_text part.now result }

@@ -21,6 +21,7 @@ pub fn cut(text: &[u8]) -> Option<(&[u8], &[u8])>
     Some(around(text, i))
 }
 
+// No cut at a mark that is passed, since the line feed has one search of its own, which every reader of lines goes through.
 /// The first line without its line feed and the text after it, or none where no line ends.
 pub fn line(text: &[u8]) -> Option<(&[u8], &[u8])>
     ensures { Cuts 10 text.now result }

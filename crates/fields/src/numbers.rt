@@ -14,6 +14,8 @@ pub(crate) const NINE: u8 = b'9';
 /// How many digits there are.
 pub const BASE: u64 = 10;
 
+// Functions and no `TryFrom`: a number is read within a limit that its caller gives.
+
 /// The number that `part` spells in decimal with no needless zero in front, where it is at most `most`.
 pub fn number(part: &[u8], most: u64) -> Option<u64>
     ensures { Reads (λ n. n ≤ most) decimal part.now result }

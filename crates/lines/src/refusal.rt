@@ -18,6 +18,7 @@ pub enum ReadRefusal {
 }
 
 impl ReadRefusal {
+    // By `match` and no conversion to a number, which would lose the field.
     /// The refusal's number.
     pub fn number(self) -> u8
         ensures { result ≡ read_number self }
@@ -49,6 +50,7 @@ pub enum WriteRefusal {
 }
 
 impl WriteRefusal {
+    // By `match`, as in `ReadRefusal`: the contract, not the compiler, refuses a wrong number.
     /// The refusal's number.
     pub fn number(self) -> u8
         ensures { result ≡ write_number self }

@@ -10,7 +10,3 @@ module _ (out : List ℕ) (i : ℕ) (rest whole : List ℕ) (begun : Begun out i
   pub begun_more : (x : ℕ) (after : List ℕ) → i < length out → rest ≡ x ∷ after → Begun (set out i x) (i + 1) after whole
   begun_more x after within next =
       ap (λ front. front ++ after) (take_more_set out i x within) ∙ append_assoc (take i out) (x ∷ []) after ∙ ap (λ back. take i out ++ back) (sym next) ∙ begun
-
-  pub begun_all : length out ≤ i → rest ≡ [] → out ≡ whole
-  begun_all done none =
-      sym (take_all i out done) ∙ sym (append-nil (take i out)) ∙ ap (λ back. take i out ++ back) (sym none) ∙ begun
