@@ -14,6 +14,7 @@ pub const MOST_NEED: u64 = 2_000_000;
 
 /// A rule that shares a pool of kWh among needs, by one function that keeps the law `Fair`.
 pub trait SharingRule {
+    // The rule as a function from a pool and a list of needs to a list of shares, which its call takes apart as well.
     ghost sharing: { Self → ℕ → List ℕ → List ℕ };
 
     /// Writes the shares of the needs into `shares`, or refuses and leaves it as it was.
