@@ -35,7 +35,7 @@ fn line_of(text: &[u8], line: usize) -> Result<Line, ReadRefusal>
 fn line_in(row: Row<'_>) -> Result<Line, WrongField>
     ensures { RowRead (texts_of row.entry) result }
 {
-    let Word(kind) = Word::read(row.kind)?;
+    let kind = Kind::read(row.kind)?;
     line_as(kind, row)
 }
 

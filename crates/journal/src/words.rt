@@ -3,7 +3,7 @@ ghost use Rattle.std.specs.Prelude.{◌≡◌, ℕ, List, Contains};
 ghost use Rattle.fields.specs.Reads.{Reads};
 ghost use Rattle.fields.specs.Tokens.{WordLike};
 ghost use Rattle.std.proofs.Common.{rules};
-ghost use Rattle.journal.specs.Words.{WordForm, flow_word, kind_word, zone_word};
+ghost use Rattle.journal.specs.Words.{KindForm, WordForm, flow_word, kind_word, zone_word};
 
 use crate::kind::Kind;
 use fields::column::Column;
@@ -115,5 +115,18 @@ impl<W: Worded> Column for Word<W> {
             Token::Word(word) => W::of_word(word).map(Word),
             _ => None,
         }
+    }
+}
+
+impl Column for Kind {
+    ghost spelling = { record {
+      form = KindForm;
+      fine = λ _. Unit {0};
+      text = kind_word;
+    } };
+
+    fn of(part: &[u8]) -> Option<Kind> {
+        let Word(kind) = Word::of(part)?;
+        Some(kind)
     }
 }
