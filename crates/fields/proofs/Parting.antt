@@ -1,10 +1,31 @@
 -- The commas part a text in one way only.
-use Rattle.std.proofs.Common.{◌≡◌, ℕ, suc, true, List, [], ◌∷◌, ◌++◌, length, is_some, Some, None, Option, sym, refl, ap, ◌∙◌, ap₂, arith, Bor}
+use Rattle.std.proofs.Common.{◌≡◌, ℕ, suc, true, List, [], ◌∷◌, ◌++◌, length, is_some, Some, None, Option, sym, refl, ap, ◌∙◌, subst, ap₂, arith, Bor}
 use Rattle.fields.proofs.Lacking.{cut_once, no_mark}
 use Rattle.fields.specs.Cuts.{Cuts, Lacks}
 use Rattle.fields.specs.Partings.{Parted}
 use Rattle.fields.specs.Rows.{row}
 use Rattle.std.proofs.lemmas.Bool.{false≢true}
+use Rattle.std.proofs.lemmas.List.Elements.{All-cons, All-head, All-nil, All-tail}
+
+-- the first of the texts has no comma
+first_lacks : {bs text : List ℕ} {texts : List (List ℕ)} → Parted (text ∷ texts) bs → Lacks 44 text
+first_lacks {bs} {text} {texts} is = All-head (Lacks 44) text texts is.commaless
+
+-- the texts after the first are parted by the commas of what follows it
+rest_parted : {bs text rest : List ℕ} {texts : List (List ℕ)} → Parted (text ∷ texts) bs → rest ≡ row texts → Parted texts rest
+rest_parted {bs} {text} {rest} {texts} is whole = record { commaless = All-tail (Lacks 44) text texts is.commaless; whole = whole }
+
+-- without a comma the bytes are one text
+pub one_text : {bs text : List ℕ} → Lacks 44 bs → text ≡ bs → Parted (text ∷ []) bs
+one_text {bs} {text} lacks same = subst (λ t. Parted (t ∷ []) bs) (sym same)
+    (record { commaless = All-cons (Lacks 44) bs [] lacks (All-nil (Lacks 44)); whole = refl })
+
+-- the first comma ends one text more
+pub one_more : {bs field rest text next : List ℕ} {texts : List (List ℕ)} → (bs ≡ field ++ (44 ∷ rest)) × Lacks 44 field → text ≡ field → Parted (next ∷ texts) rest → Parted (text ∷ next ∷ texts) bs
+one_more {bs} {field} {rest} {text} {next} {texts} cut same is = subst (λ t. Parted (t ∷ next ∷ texts) bs) (sym same) (record {
+  commaless = All-cons (Lacks 44) field (next ∷ texts) cut.1 is.commaless;
+  whole = cut.0 ∙ ap (λ r. field ++ (44 ∷ r)) is.whole;
+})
 
 -- no so many texts are parted by the commas of the bytes
 abbrev pub NotIn : ℕ → List ℕ → Type 0
@@ -19,7 +40,7 @@ one_alone bs n lacks (text ∷ next ∷ texts) count is = no_mark 44 text (row (
 -- with a comma there are more
 more_than_one : (bs field rest : List ℕ) → bs ≡ field ++ (44 ∷ rest) → NotIn 1 bs
 more_than_one bs field rest e [] count is = omega arith
-more_than_one bs field rest e (text ∷ []) count is = no_mark 44 field rest text is.commaless.0 (sym is.whole ∙ e)
+more_than_one bs field rest e (text ∷ []) count is = no_mark 44 field rest text (first_lacks is) (sym is.whole ∙ e)
 more_than_one bs field rest e (text ∷ next ∷ texts) count is = omega arith
 
 pub comma_found : (bs : List ℕ) (r : Option (Bor (List ℕ) × Bor (List ℕ))) → Cuts 44 bs r → is_some r ≡ true → NotIn 1 bs
@@ -31,19 +52,17 @@ pub one_fewer : (bs field rest : List ℕ) (n : ℕ) → bs ≡ field ++ (44 ∷
 one_fewer bs field rest n e lacks fewer [] count is = omega arith
 one_fewer bs field rest n e lacks fewer (text ∷ []) count is = omega arith
 one_fewer bs field rest n e lacks fewer (text ∷ next ∷ texts) count is =
-    let same = cut_once 44 field text rest (row (next ∷ texts)) lacks is.commaless.0 (sym e ∙ is.whole) in
-    fewer (next ∷ texts) (omega arith) (record { commaless = is.commaless.1; whole = same.1 })
+    let same = cut_once 44 field text rest (row (next ∷ texts)) lacks (first_lacks is) (sym e ∙ is.whole) in
+    fewer (next ∷ texts) (omega arith) (rest_parted is same.1)
 
 -- two partings of the same bytes are the same
 pub one_parting : (bs text other : List ℕ) (texts others : List (List ℕ)) → Parted (text ∷ texts) bs → Parted (other ∷ others) bs → text ∷ texts ≡ other ∷ others
 one_parting bs text other [] [] is too = ap (λ t. t ∷ []) (sym is.whole ∙ too.whole)
 one_parting bs text other [] (o ∷ others) is too =
-    absurd (no_mark 44 other (row (o ∷ others)) text is.commaless.0 (sym is.whole ∙ too.whole))
+    absurd (no_mark 44 other (row (o ∷ others)) text (first_lacks is) (sym is.whole ∙ too.whole))
 one_parting bs text other (t ∷ texts) [] is too =
-    absurd (no_mark 44 text (row (t ∷ texts)) other too.commaless.0 (sym too.whole ∙ is.whole))
+    absurd (no_mark 44 text (row (t ∷ texts)) other (first_lacks too) (sym too.whole ∙ is.whole))
 one_parting bs text other (t ∷ texts) (o ∷ others) is too =
-    let same = cut_once 44 text other (row (t ∷ texts)) (row (o ∷ others)) is.commaless.0 too.commaless.0 (sym is.whole ∙ too.whole) in
-    let rest = one_parting (row (t ∷ texts)) t o texts others
-    (record { commaless = is.commaless.1; whole = refl })
-    (record { commaless = too.commaless.1; whole = same.1 }) in
+    let same = cut_once 44 text other (row (t ∷ texts)) (row (o ∷ others)) (first_lacks is) (first_lacks too) (sym is.whole ∙ too.whole) in
+    let rest = one_parting (row (t ∷ texts)) t o texts others (rest_parted is refl) (rest_parted too same.1) in
     ap₂ (λ a b. a ∷ b) same.0 rest

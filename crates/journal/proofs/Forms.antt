@@ -1,5 +1,5 @@
 -- What the reader answers of a line's text.
-use Rattle.std.proofs.Common.{◌≡◌, ℕ, zero, suc, ◌≤◌, List, [], ◌∷◌, length, ◌↔◌, IsOk, Ok, Err, decimal, Result, sym, refl, ap, ◌∙◌, subst, inl, inr, ⊎_elim, arith}
+use Rattle.std.proofs.Common.{All, ◌≡◌, ℕ, zero, suc, ◌≤◌, List, [], ◌∷◌, length, ◌↔◌, IsOk, Ok, Err, decimal, Result, sym, refl, ap, ◌∙◌, subst, inl, inr, ⊎_elim, arith}
 use Rattle.fields.proofs.Forming.{date_form, number_form, signed_form}
 use Rattle.fields.proofs.Lacking.{decimal_lacks, lacks_by_test, signed_lacks}
 use Rattle.fields.proofs.Parting.{one_parting}
@@ -13,7 +13,7 @@ use Rattle.ledger.specs.declared.zone.Zone.{Zone}
 use Rattle.ledger.specs.declared.zone.Zone.TheVariants.{Day, Night}
 use Rattle.std.proofs.lemmas.List.{append_cancel_right}
 use Rattle.std.proofs.lemmas.Bool.{false≢true}
-use Rattle.std.specs.List.{AllByRecursion}
+use Rattle.std.proofs.lemmas.List.Elements.{All-cons, All-from_recursion, All-replicate}
 use Rattle.journal.proofs.Sameness.{same_kind, same_line}
 use Rattle.journal.specs.Lines.{HasForm, LineRead, Refused, Writable, WrongAt, forms, kind_of, line_text, others}
 use Rattle.journal.specs.Rows.{Fields}
@@ -49,17 +49,21 @@ number_lacks n few = decimal_lacks 44 n (λ digit. omega arith) (omega arith)
 missing_lacks : Lacks 44 (45 ∷ [])
 missing_lacks = lacks_by_test 44 (45 ∷ []) refl
 
-others_lack : (line : Line) → Writable line → AllByRecursion (Lacks 44) (others line)
+others_lack : (line : Line) → Writable line → All (Lacks 44) (others line)
 others_lack (Enter (Reading register day value)) fine =
+    All-from_recursion (Lacks 44) (others (Enter (Reading register day value)))
     (number_lacks register.place fine.0, (zone_lacks register.zone, (flow_lacks register.flow, (number_lacks value fine.1, (missing_lacks, (day_text_commaless day, tt))))))
 others_lack (Enter (Change register day value start)) fine =
+    All-from_recursion (Lacks 44) (others (Enter (Change register day value start)))
     (number_lacks register.place fine.0, (zone_lacks register.zone, (flow_lacks register.flow, (number_lacks value fine.1, (number_lacks start fine.2, (day_text_commaless day, tt))))))
 others_lack (Enter (Correction register quantity)) fine =
+    All-from_recursion (Lacks 44) (others (Enter (Correction register quantity)))
     (number_lacks register.place fine.0, (zone_lacks register.zone, (flow_lacks register.flow, (signed_lacks 44 quantity (λ digit. omega arith) (λ minus. omega arith) (omega (arith, fine.1)), (missing_lacks, (missing_lacks, tt))))))
 others_lack (Enter (Payment place drams)) fine =
+    All-from_recursion (Lacks 44) (others (Enter (Payment place drams)))
     (number_lacks place fine.0, (missing_lacks, (missing_lacks, (number_lacks drams fine.1, (missing_lacks, (missing_lacks, tt))))))
-others_lack Issue fine = (missing_lacks, (missing_lacks, (missing_lacks, (missing_lacks, (missing_lacks, (missing_lacks, tt))))))
-others_lack Year fine = (missing_lacks, (missing_lacks, (missing_lacks, (missing_lacks, (missing_lacks, (missing_lacks, tt))))))
+others_lack Issue fine = All-replicate (Lacks 44) 6 (45 ∷ []) missing_lacks
+others_lack Year fine = All-replicate (Lacks 44) 6 (45 ∷ []) missing_lacks
 
 -- ---- each field of a line has its form
 
@@ -86,7 +90,7 @@ six Year = refl
 fields_are : (line : Line) (bs : List ℕ) → Writable line → bs ≡ line_text line → Fields (kind_word (kind_of line) ∷ others line) bs
 fields_are line bs fine e = record {
   seven = ap suc (six line);
-  commaless = (kind_lacks (kind_of line), others_lack line fine);
+  commaless = All-cons (Lacks 44) _ _ (kind_lacks (kind_of line)) (others_lack line fine);
   whole = e;
 }
 

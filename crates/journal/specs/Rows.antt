@@ -1,9 +1,8 @@
 -- The seven fields of a line.
-use Rattle.std.specs.Prelude.{◌≡◌, ℕ, ◌+◌, List, [], ◌∷◌, length, Option, MatchOption}
+use Rattle.std.specs.Prelude.{All, ◌≡◌, ℕ, ◌+◌, List, [], ◌∷◌, length, Option, MatchOption}
 use Rattle.fields.specs.Columns.{FirstWrong, Form}
 use Rattle.fields.specs.Cuts.{Lacks}
 use Rattle.fields.specs.Rows.{line_of}
-use Rattle.std.specs.List.{AllByRecursion}
 use Rattle.journal.specs.declared.row.Row.{Row}
 
 -- the bytes of the six fields after the kind
@@ -29,7 +28,7 @@ pub record OnLine (line : ℕ) (row : Row) : Type 0 where
 -- the texts are the seven fields of the line: none has a comma, commas part them, and a line feed ends the last
 pub record Fields (texts : List (List ℕ)) (bs : List ℕ) : Type 0 where
   pub seven : length texts ≡ 7
-  pub commaless : AllByRecursion (Lacks 44) texts
+  pub commaless : All (Lacks 44) texts
   pub whole : bs ≡ line_of texts
 
 -- the fields of the line, or none where it has not its line feed or not seven fields

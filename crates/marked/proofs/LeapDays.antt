@@ -7,6 +7,7 @@ use Rattle.fields.proofs.Forming.{day_spelled, number_form}
 use Rattle.fields.proofs.Lacking.{lacks_by_test}
 use Rattle.fields.proofs.Spelling.{same_date_text, short_date}
 use Rattle.fields.specs.Columns.{DateForm, NumberForm}
+use Rattle.fields.specs.Cuts.{Lacks}
 use Rattle.fields.specs.Rows.{line_of}
 use Rattle.fields.specs.Texts.{date_text}
 use Rattle.journal.specs.Lines.{LineRead}
@@ -17,6 +18,7 @@ use Rattle.ledger.specs.declared.entry.Entry.TheVariants.{Reading}
 use Rattle.ledger.specs.declared.zone.Flow.TheVariants.{Delivered}
 use Rattle.ledger.specs.declared.zone.Zone.TheVariants.{Day}
 use Rattle.marked.specs.Cases.{ReadOrRefused, register}
+use Rattle.std.proofs.lemmas.List.Elements.{All-from_recursion}
 use Rattle.std.specs.Fmt.{digits}
 
 abbrev leap_day : (year : ℕ) → Date
@@ -59,7 +61,8 @@ in_2023 = (
   (
     record {
       seven = refl;
-      commaless = (lacks_by_test 44 (codes "READ") refl, (lacks_by_test 44 (codes "0") refl, (lacks_by_test 44 (codes "DAY") refl, (lacks_by_test 44 (codes "GIVE") refl, (lacks_by_test 44 (codes "900") refl, (lacks_by_test 44 (codes "-") refl, (lacks_by_test 44 (codes "2023-02-29") refl, tt)))))));
+      commaless = All-from_recursion (Lacks 44) (before (codes "2023-02-29"))
+          (lacks_by_test 44 (codes "READ") refl, (lacks_by_test 44 (codes "0") refl, (lacks_by_test 44 (codes "DAY") refl, (lacks_by_test 44 (codes "GIVE") refl, (lacks_by_test 44 (codes "900") refl, (lacks_by_test 44 (codes "-") refl, (lacks_by_test 44 (codes "2023-02-29") refl, tt)))))));
       whole = refl;
     },
     inr (kinds.Reading, (refl, (5, (refl, (subst NumberForm nought (number_form 0 (omega arith)), ((Day, refl), ((Delivered, refl), (subst NumberForm nine_hundred (number_form 900 (omega arith)), (refl, no_date))))))))),

@@ -1,5 +1,5 @@
 use Rattle.std.proofs.Common.{◌≡◌, ℕ, suc, List, ◌∷◌, ◌++◌, rules}
-use Rattle.fields.proofs.Parting.{NotIn, comma_found, one_alone, one_fewer}
+use Rattle.fields.proofs.Parting.{NotIn, comma_found, one_alone, one_fewer, one_more, one_text}
 use Rattle.fields.specs.Cuts.{Lacks}
 use Rattle.journal.proofs.row.Row.of_body.Goals as goal
 
@@ -59,3 +59,15 @@ returns-then-is_some c =
     (after 1 _ _ _ c.in_ok-value.ensures
     (after 0 _ _ _ c.in_ok-second.ensures
     (comma_found _ _ c.cut-7.ensures (search rules)))))))
+
+pub returns : goal.returns
+returns c = (
+  one_more c.in_ok-kind.ensures c.new.ensures.whole
+      (one_more c.in_ok-member.ensures c.new-2.ensures.whole
+      (one_more c.in_ok-zone.ensures c.new-3.ensures.whole
+      (one_more c.in_ok-flow.ensures c.new-4.ensures.whole
+      (one_more c.in_ok-value.ensures c.new-5.ensures.whole
+      (one_more c.in_ok-second.ensures c.new-6.ensures.whole
+      (one_text (search rules) c.new-7.ensures.whole)))))),
+  search rules,
+)
