@@ -1,5 +1,6 @@
 -- Dates, and the days that they are.
 use Rattle.std.specs.Prelude.{◌≡◌, ℕ, zero, suc, ◌+◌, ◌-◌, ◌*◌, ◌%◌, ◌<◌, ◌≤◌, Bool, true, ◌&&◌, if◌then◌else◌, Some, None, Option, MatchOption, ◌≢◌, nat_le, nat_lt, slice_index}
+use Rattle.std.specs.Option.{SomeIff}
 use Rattle.calendar.specs.Gregorian.{first_day, length_of, lengths, lies_in, year_of}
 use Rattle.calendar.specs.declared.date.Date.{Date}
 
@@ -13,6 +14,12 @@ is_date d =
 -- the month of a date, counted from January 2000
 abbrev pub month_of_date : Date → ℕ
 month_of_date d = (d.year - 2000) * 12 + (d.month - 1)
+
+-- the month of a year, counted from January 2000, where there is one from 2000 to 2099
+abbrev pub MonthIn : (year month : ℕ) → Option ℕ → Type 0
+MonthIn year month r =
+    SomeIff r ((2000 ≤ year) × (year ≤ 2099) × (1 ≤ month) × (month ≤ 12))
+    ((year - 2000) * 12 + (month - 1))
 
 -- the day of a date, counted from 1 January 2000
 abbrev pub day_number : Date → ℕ

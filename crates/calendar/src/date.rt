@@ -1,6 +1,6 @@
 //! Dates by year, month and day of the month.
 ghost use Rattle.std.specs.Prelude.{◌≡◌, ◌<◌, ◌≤◌, if◌then◌else◌, Some, None, nat_le};
-ghost use Rattle.calendar.specs.Dates.{Agree, DateOf, date_in, date_of_day, day_of_date};
+ghost use Rattle.calendar.specs.Dates.{Agree, DateOf, MonthIn, date_in, date_of_day, day_of_date};
 
 use crate::days::{Day, Month, first, month_of};
 
@@ -24,20 +24,35 @@ pub struct Date {
     pub day: u8,
 }
 
+/// The month of a year, January being 1, or none where there is no such month from 2000 to 2099.
+pub fn month_in(year: u16, month: u8) -> Option<Month>
+    ensures { MonthIn year month result }
+{
+    let month = month as Month;
+    if year < FIRST_YEAR || year > LAST_YEAR || month == 0 || month > MONTHS {
+        return None;
+    }
+    Some((year - FIRST_YEAR) * MONTHS + (month - 1))
+}
+
+/// The date of the first day of a month.
+pub fn first_date_of(month: Month) -> Date
+    ensures { result ≡ date_in month 0 }
+{
+    Date {
+        year: FIRST_YEAR + month / MONTHS,
+        month: (month % MONTHS + 1) as u8,
+        day: 1,
+    }
+}
+
 // A day is a plain number, so `TryFrom<Date> for u32` would say less than these two names.
 
 /// The day of a date, or none where it is no date from 2000-01-01 to 2099-12-31.
 pub fn day_of(date: Date) -> Option<Day>
     ensures { result ≡ day_of_date date }
 {
-    if date.year < FIRST_YEAR
-        || date.year > LAST_YEAR
-        || date.month == 0
-        || date.month as Month > MONTHS
-    {
-        return None;
-    }
-    let month = (date.year - FIRST_YEAR) * MONTHS + (date.month as Month - 1);
+    let month = month_in(date.year, date.month)?;
     let begins = first(month);
     // The table has the month's length, so that the leap years need no test here.
     let length = first(month + 1) - begins;
@@ -57,13 +72,11 @@ pub fn date_of(day: Day) -> Option<Date>
 
 // The date in a month so many days after its first.
 fn date_in(month: Month, after: Day) -> Date
-    requires month { month ≤ 1199 }
-    requires after { after < 31 }
+    requires { after < 31 }
     ensures { result ≡ date_in month after }
 {
     Date {
-        year: FIRST_YEAR + month / MONTHS,
-        month: (month % MONTHS + 1) as u8,
         day: (after + 1) as u8,
+        ..first_date_of(month)
     }
 }

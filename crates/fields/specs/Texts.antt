@@ -28,8 +28,3 @@ day_text day = date_text (date_of_day day)
 -- four digits of the year and two of the month, which is counted from January 2000, with a hyphen between them
 abbrev pub month_text : ℕ → List ℕ
 month_text month = four (year_of month) ++ (45 ∷ two (month % 12 + 1))
-
--- the month of a year, counted from January 2000, where there is one from 2000 to 2099
-abbrev pub MonthIn : (year month : ℕ) → Option ℕ → Type 0
-MonthIn year month r =
-    SomeIff r ((2000 ≤ year) × (year ≤ 2099) × (1 ≤ month) × (month ≤ 12)) ((year - 2000) * 12 + (month - 1))

@@ -2,11 +2,11 @@
 ghost use Rattle.std.specs.Prelude.{◌≤◌};
 ghost use Rattle.fields.specs.Digits.{FourDigits, TwoDigits};
 ghost use Rattle.fields.specs.Reads.{Reads};
-ghost use Rattle.fields.specs.Texts.{MonthIn, Spellable, date_text, day_text, month_text};
+ghost use Rattle.fields.specs.Texts.{Spellable, date_text, day_text, month_text};
 
 use crate::marks::HYPHEN;
 use crate::numbers::digit;
-use calendar::date::{Date, FIRST_YEAR, LAST_YEAR, MONTHS, day_of};
+use calendar::date::{Date, day_of, month_in};
 use calendar::days::{Day, Month};
 
 const TEN: u8 = 10;
@@ -45,17 +45,6 @@ fn date(part: &[u8]) -> Option<Date>
     let month = two_digits(*m0, *m1)?;
     let day = two_digits(*d0, *d1)?;
     Some(Date { year, month, day })
-}
-
-// The month of a year, where there is one from 2000 to 2099.
-fn month_in(year: u16, month: u8) -> Option<Month>
-    ensures { MonthIn year month result }
-{
-    let month = month as Month;
-    if year < FIRST_YEAR || year > LAST_YEAR || month == 0 || month > MONTHS {
-        return None;
-    }
-    Some((year - FIRST_YEAR) * MONTHS + (month - 1))
 }
 
 // The number that four digits write.

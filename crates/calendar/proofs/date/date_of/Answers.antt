@@ -17,10 +17,7 @@ pub date_in-requires : goal.date_in-requires
 date_in-requires c =
     let month = c.in_ok-month.month in
     let within = c.in_ok-month.ensures in
-    record {
-      month = within.0;
-      after = omega (arith, within.1, within.2, c.first.ensures, first_next month, (usual_length (year_of month) (month % 12) (omega arith)).1);
-    }
+    omega (arith, within.1, within.2, c.first.ensures, first_next month, (usual_length (year_of month) (month % 12) (omega arith)).1)
 
 pub returns : goal.returns
 returns c =
