@@ -1,6 +1,6 @@
 -- Months follow one another, and a day lies in one of them.
 use Rattle.std.proofs.Common.{◌≡◌, ℕ, zero, suc, ◌+◌, ◌-◌, ◌<◌, ◌≤◌, true, cond, get_or, refl, ap, ⊎_elim, add-zero, add-suc, add-one, arith}
-use Rattle.std.proofs.ByRecursion.{All-get_or}
+use Rattle.std.proofs.lemmas.List.Elements.{All-from_recursion, All-get_or}
 use Rattle.std.proofs.lemmas.Bool.{and_parts, cases_order, cond_both, leb-true, ltb-true}
 use Rattle.calendar.specs.Gregorian.{first_day, leap, length_of, lengths, lies_in}
 
@@ -16,7 +16,8 @@ usual_length year place within =
     let long : Usual 31 = (omega arith, omega arith) in
     let short : Usual 30 = (omega arith, omega arith) in
     All-get_or Usual (lengths year) place 0 within
-    (long, (february year, (long, (short, (long, (short, (long, (long, (short, (long, (short, (long, tt))))))))))))
+    (All-from_recursion Usual (lengths year)
+    (long, (february year, (long, (short, (long, (short, (long, (long, (short, (long, (short, (long, tt)))))))))))))
 
 first_later : (month k : ℕ) → first_day month ≤ first_day (month + k)
 first_later month zero = omega (arith, ap first_day (add-zero month))

@@ -2,7 +2,7 @@
 use Rattle.std.proofs.Common.{◌≡◌, ℕ, zero, suc, ◌^◌, ◌<◌, ◌≤◌, Bool, true, false, cond, List, ◌∷◌, length, get_or, ℤ, pos, negsuc, nat_abs, Some, None, codes, decimal, sym, refl, ap, ◌∙◌, inl, inr, arith}
 use Rattle.calendar.proofs.Named.{dated, early_enough, same_date}
 use Rattle.calendar.specs.Dates.{date_of_day, day_number, day_of_date, is_date}
-use Rattle.fields.proofs.Reading.{own, plain_decimal}
+use Rattle.fields.proofs.Reading.{own, zero_alone}
 use Rattle.fields.proofs.Widths.{digits_9}
 use Rattle.fields.specs.Columns.{DateForm, Form, NumberForm, SignedForm}
 use Rattle.fields.specs.Texts.{date_text, day_text}
@@ -22,7 +22,7 @@ number_form n few =
       some = decimal_nonempty n h;
       few = digits_9 n few;
       digits = λ i within. digit_at (decimal n) i (digits_decimal own n h) within;
-      no_needless_zero = (plain_decimal n h).1;
+      no_needless_zero = zero_alone n h;
     }
 
 by_index : IsNumeralModel (λ ds. (i : ℕ) → i < length ds → IsInRange 48 57 (get_or ds i 0)) (digits_value 10)

@@ -5,7 +5,7 @@ use Rattle.calendar.specs.Dates.{date_of_day, day_of_date}
 use Rattle.calendar.specs.declared.date.Date.{Date}
 use Rattle.fields.specs.Cuts.{Lacks}
 use Rattle.fields.specs.Texts.{Spellable, date_text, day_text, four, two}
-use Rattle.std.proofs.ByRecursion.{All-get_or}
+use Rattle.std.proofs.lemmas.List.Elements.{All-from_recursion, All-get_or}
 use Rattle.std.specs.Int.{IsInRange}
 
 -- two digits tell a number below a hundred
@@ -61,8 +61,10 @@ hyphen_no_comma is = omega arith
 -- no byte of the text of a date is a comma
 pub date_text_commaless : (d : Date) → Lacks 44 (date_text d)
 date_text_commaless d k within =
-    All-get_or (λ b. b ≡ 44 → ⊥) (date_text d) k 0 within
-    (digit_no_comma _, (digit_no_comma _, (digit_no_comma _, (digit_no_comma _, (hyphen_no_comma, (digit_no_comma _, (digit_no_comma _, (hyphen_no_comma, (digit_no_comma _, (digit_no_comma _, tt))))))))))
+    let NoComma : ℕ → Type 0 = λ b. b ≡ 44 → ⊥ in
+    All-get_or NoComma (date_text d) k 0 within
+    (All-from_recursion NoComma (date_text d)
+    (digit_no_comma _, (digit_no_comma _, (digit_no_comma _, (digit_no_comma _, (hyphen_no_comma, (digit_no_comma _, (digit_no_comma _, (hyphen_no_comma, (digit_no_comma _, (digit_no_comma _, tt)))))))))))
 
 pub day_text_commaless : (day : ℕ) → Lacks 44 (day_text day)
 day_text_commaless day = date_text_commaless (date_of_day day)

@@ -1,9 +1,8 @@
 -- The texts of dates and months.
-use Rattle.std.specs.Prelude.{ℕ, ◌+◌, ◌-◌, ◌*◌, ◌/◌, ◌%◌, ◌<◌, ◌≤◌, List, [], ◌∷◌, ◌++◌, Option}
+use Rattle.std.specs.Prelude.{ℕ, ◌+◌, ◌/◌, ◌%◌, ◌<◌, List, [], ◌∷◌, ◌++◌}
 use Rattle.calendar.specs.Dates.{date_of_day}
 use Rattle.calendar.specs.Gregorian.{year_of}
 use Rattle.calendar.specs.declared.date.Date.{Date}
-use Rattle.std.specs.Option.{SomeIff}
 
 -- the last two digits of a number
 abbrev pub two : ℕ → List ℕ

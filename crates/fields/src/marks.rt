@@ -21,7 +21,7 @@ pub fn cut(text: &[u8]) -> Option<(&[u8], &[u8])>
     Some(around(text, i))
 }
 
-// No cut at a mark that is passed, since the line feed has one search of its own, which every reader of lines goes through.
+// Not one `cut` with the mark as a parameter: the line feed has one search of its own, which every reader of lines goes through.
 /// The first line without its line feed and the text after it, or none where no line ends.
 pub fn line(text: &[u8]) -> Option<(&[u8], &[u8])>
     ensures { Cuts 10 text.now result }
@@ -50,12 +50,12 @@ fn next(text: &[u8], from: usize, mark: u8) -> Option<usize>
     ensures { Next mark text.now from result }
 {
     let rest = text.get(from..)?;
-    let ahead = first(rest, mark)?;
+    let ahead = index_of(mark, rest)?;
     Some(from + ahead)
 }
 
 // The index of the first byte that is the mark.
-fn first(text: &[u8], mark: u8) -> Option<usize>
+fn index_of(mark: u8, text: &[u8]) -> Option<usize>
     ensures { result ≡ position_from (λ byte. byte == mark) 0 text.now }
 {
     text.iter().position(|byte| *byte == mark)

@@ -1,18 +1,16 @@
 //! Reads the numbers of a text.
 ghost use Rattle.std.specs.Prelude.{◌^◌, ◌<◌, ◌≤◌, ◌↔◌, decimal, IsTrue, unsigned_abs};
-ghost use Rattle.fields.specs.Digits.{BelowZero, Digit, Grown, Plain, Spelled};
+ghost use Rattle.fields.specs.Digits.{BelowZero, Digit, Spelled};
 ghost use Rattle.fields.specs.Reads.{Reads};
 ghost use Rattle.std.specs.Fmt.{signed_decimal};
 
 use crate::marks::HYPHEN;
+use itoa::Buffer;
 
 /// The digit 0.
 pub const ZERO: u8 = b'0';
 
 pub(crate) const NINE: u8 = b'9';
-
-/// How many digits there are.
-pub const BASE: u64 = 10;
 
 // Functions and no `TryFrom`: a number is read within a limit that its caller gives.
 
@@ -44,38 +42,13 @@ fn below_zero(value: u64) -> Option<i64>
     (value > 0).then(|| -(value as i64))
 }
 
-// The number of 64 bits that the part spells.
+// The number of 64 bits that the part spells, which is printed as the part.
 fn spelled(part: &[u8]) -> Option<u64>
     ensures { Spelled part.now result }
 {
-    if !is_plain(part) {
-        return None;
-    }
-    let mut value = 0;
-    for byte in part {
-        // More digits only make the number larger, so one that does not fit now never will.
-        value = grown(value, *byte)?;
-    }
-    Some(value)
-}
-
-// Whether the part has a byte, and no zero before others.
-fn is_plain(part: &[u8]) -> bool
-    ensures { IsTrue result ↔ Plain part.now }
-{
-    match part {
-        [] => false,
-        [_] => true,
-        [first, ..] => *first != ZERO,
-    }
-}
-
-// The number with one more digit, or none where the byte is no digit or the number does not fit.
-fn grown(value: u64, byte: u8) -> Option<u64>
-    ensures { Grown value byte result }
-{
-    let digit = digit(byte)?;
-    value.checked_mul(BASE)?.checked_add(u64::from(digit))
+    let value = str::from_utf8(part).ok()?.parse::<u64>().ok()?;
+    // A plus or a zero in front is read as well, but never printed.
+    (Buffer::new().format(value).as_bytes() == part).then_some(value)
 }
 
 // The value of a digit.

@@ -1,19 +1,24 @@
-use Rattle.std.proofs.Common.{arith, rules}
-use Rattle.fields.proofs.Reading.{all_read, not_plain, read_more, stuck}
+use Rattle.std.proofs.Common.{ap, ◌∙◌, subst, rules}
+use Rattle.std.proofs.Math.Dec.{eqb}
+use Rattle.std.specs.Cmp.Lexicographic.{pointwise}
+use Rattle.std.specs.Str.Parse.{ParsesUnsigned}
+use Rattle.fields.proofs.Reading.{no_text, printed, same_text, succeeded, unread}
 use Rattle.fields.proofs.numbers.spelled.Goals as goal
 
-pub returns-then-not-is_plain : goal.returns-then-not-is_plain
-returns-then-not-is_plain c = not_plain _ (λ p. grind arith)
+pub returns-in_err-ok : goal.returns-in_err-ok
+returns-in_err-ok c =
+    rw c.from_residual.ensures (no_text c.args.part.now _ _ c.from_utf8.result c.in_err-ok.ensures.value c.from_utf8.ensures.cases)
 
 pub returns-in_err-value : goal.returns-in_err-value
 returns-in_err-value c =
-    rw c.from_residual.ensures
-    (stuck _ _ _ c.loop-byte-test.true c.loop-byte.invariant c.in_err-value.ensures)
-
-pub loop-byte-preserved : goal.loop-byte-preserved
-loop-byte-preserved c =
-    read_more _ _ _ _ c.loop-byte-test.true c.loop-byte.invariant c.in_ok-value.ensures
+    let text = succeeded _ _ c.from_utf8.result c.in_ok-ok.field-0 c.in_ok-ok.ensures.value c.from_utf8.ensures.cases in
+    rw c.from_residual-in_err-value.ensures
+    (unread c.args.part.now c.parse.result c.in_err-value.ensures.value (subst (λ bs. ParsesUnsigned 64 10 bs c.parse.result) text.0 c.parse.ensures.value.0))
 
 pub returns : goal.returns
 returns c =
-    all_read _ _ _ (omega arith) c.loop-byte.invariant (search rules)
+    let text = succeeded _ _ c.from_utf8.result c.in_ok-ok.field-0 c.in_ok-ok.ensures.value c.from_utf8.ensures.cases in
+    rw c.then_some.ensures
+    (printed c.args.part.now c.parse.result c.in_ok-value.value c.eq.result (search rules) c.in_ok-value.ensures.value
+    (subst (λ bs. ParsesUnsigned 64 10 bs c.parse.result) text.0 c.parse.ensures.value.0)
+    (same_text _ _ _ (c.eq.ensures ∙ ap (λ bytes. pointwise eqb bytes c.args.part.now) (c.as_bytes.ensures.value ∙ c.format.ensures.text))))
