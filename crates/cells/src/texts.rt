@@ -4,8 +4,9 @@ ghost use Rattle.cells.specs.Cells.{cell_text};
 ghost use Rattle.fields.specs.Texts.{date_text, four, two};
 
 use crate::rows::Cell;
-use calendar::date::{Date, FIRST_YEAR, MONTHS};
+use calendar::date::{Date, first_date_of};
 use fields::marks::HYPHEN;
+use fields::numbers::ZERO;
 
 const DATE_LENGTH: usize = 10;
 
@@ -26,7 +27,7 @@ impl Buffer {
         }
     }
 
-    // The text of a cell. Through `Display` no writer could say when it answers none, since std promises nothing of an `Err` of `fmt`.
+    // The text of a cell. No `Display`: std promises nothing of an error of `fmt`, so a writer through it could not say when it answers none.
     pub(crate) fn text<'a>(&'a mut self, cell: Cell<'a>) -> &'a [u8]
         ensures { result.now ≡ cell_text cell.entry }
     {
@@ -41,11 +42,7 @@ impl Buffer {
             }
             // A month is the front of any date in it.
             Cell::Month(month) => {
-                self.date = date_bytes(Date {
-                    year: FIRST_YEAR + month / MONTHS,
-                    month: (month % MONTHS + 1) as u8,
-                    day: 1,
-                });
+                self.date = date_bytes(first_date_of(month));
                 &self.date[..MONTH_LENGTH]
             }
         }
@@ -82,5 +79,5 @@ fn two(n: u16) -> [u8; 2]
 fn digit(n: u16) -> u8
     ensures { result ≡ 48 + n % 10 }
 {
-    b'0' + (n % 10) as u8
+    ZERO + (n % 10) as u8
 }

@@ -188,7 +188,7 @@ fn bare_cells(kind: Kind) -> [Cell<'static>; 7]
     cells
 }
 
-// The cell of a day's date.
+// The cell of a day's date, which a writable line has.
 fn date_cell(day: Day) -> Cell<'static>
     requires { day ≤ 36524 }
     ensures { result ≡ cells.Date (date_of_day day) }

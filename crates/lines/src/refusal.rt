@@ -18,7 +18,7 @@ pub enum ReadRefusal {
 }
 
 impl ReadRefusal {
-    // By `match` and no conversion to a number, which would lose the field.
+    // A `match` is as short as a conversion to a number, and each number stands beside its case.
     /// The refusal's number.
     pub fn number(self) -> u8
         ensures { result ≡ read_number self }
@@ -50,7 +50,7 @@ pub enum WriteRefusal {
 }
 
 impl WriteRefusal {
-    // By `match`, as in `ReadRefusal`: the contract, not the compiler, refuses a wrong number.
+    // A `match`, as in `ReadRefusal`.
     /// The refusal's number.
     pub fn number(self) -> u8
         ensures { result ≡ write_number self }

@@ -26,8 +26,8 @@ pub struct Fault {
     pub field: Option<usize>,
     /// The part of the run that it comes from.
     pub layer: Layer,
+    // A number and no refusal: this crate knows none of those that a fault tells, and its line has the number.
     /// The number of the refusal.
-    // A number and no refusal: this crate lies below those whose refusals a fault tells, and its line has the number.
     pub number: u8,
 }
 

@@ -10,7 +10,7 @@ pub enum OutputRefusal {
 }
 
 impl OutputRefusal {
-    // By `match`, as every refusal of a line: the contract, not the compiler, refuses a wrong number.
+    // A `match` is as short as a conversion to a number, and the number stands beside its case.
     /// The refusal's number.
     pub fn number(self) -> u8
         ensures { result ≡ number_of self }
