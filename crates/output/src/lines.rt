@@ -23,6 +23,7 @@ pub trait Figures: Copy {
     // The line of the figures for a month, of the member at a place.
     ghost line: { ℕ → ℕ → Self → List ℕ };
 
+    // The bound stands on the call and is no law, since a law would not know the ranges of the figures.
     /// The cells of the line of the figures for a month, of the member at a place.
     fn cells(self, month: Month, place: usize) -> [Cell<'static>; 9]
         ensures cells { line_of (map cell_text result) ≡ line month place self }
@@ -67,6 +68,7 @@ impl Figures for YearEnd {
     }
 }
 
+// The slice and the place are passed apart, as to the writer of rows.
 /// Writes the line of a member's figures from `at` on, and answers the place after it; or refuses, with the slice as it was, exactly where there is no room.
 pub fn write_figures<F: Figures>(
     month: Month,
