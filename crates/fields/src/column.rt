@@ -77,7 +77,7 @@ impl Column for Signed {
     }
 }
 
-// The signed number of up to nine digits that the part spells.
+// The signed number of up to nine digits that the part spells. Not one function with the last, since each casts to a type of its own.
 fn short_signed(part: &[u8]) -> Option<i32>
     ensures { Reads (λ z. unsigned_abs z ≤ 999999999) signed_decimal part.now result }
 {
