@@ -9,7 +9,7 @@ pub fn net_of(consumed: i32, delivered: i32) -> i64
     consumed as i64 - delivered as i64
 }
 
-// Each `if` reads as its sentence: `u64::try_from(net).unwrap_or(0)` makes a failure of the 0.
+// Each `if` reads as its sentence: `u64::try_from(net).unwrap_or(0)` makes a failure of the 0, and `net.max(0).unsigned_abs()` hides it.
 
 /// The need of a net: the net itself where it is positive, else 0.
 pub fn need_of(net: i64) -> u64

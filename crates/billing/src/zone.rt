@@ -37,9 +37,10 @@ fn pool_in(carried: u64, nets: &[i64]) -> Result<u64, ShareRefusal>
     let pool = nets
         .iter()
         .fold(carried, |pool, net| pool.saturating_add(surplus_of(*net)));
-    (pool <= MOST_POOL)
-        .then_some(pool)
-        .ok_or(ShareRefusal::Size)
+    if pool > MOST_POOL {
+        return Err(ShareRefusal::Size);
+    }
+    Ok(pool)
 }
 
 // Writes what is left of each need after its cover.
@@ -49,6 +50,7 @@ fn bill(needs: &[u64], covered: &[u64], billed: &mut [u64])
     ensures { billed.new ≡ less needs.now covered.now }
 {
     // Written by place: after `billed.iter_mut().zip(..)` a proof knows nothing of what was written.
+    // A second table that is copied into the slice would be no plainer.
     for (place, need) in needs.iter().enumerate() {
         billed[place] = need.saturating_sub(covered[place]);
     }

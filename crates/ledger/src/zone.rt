@@ -1,6 +1,6 @@
 //! The zones of the day and the flows of energy, which together tell a register of a member.
 ghost use Rattle.std.specs.Prelude.{◌≡◌};
-ghost use Rattle.ledger.specs.Zones.{of_zone};
+ghost use Rattle.ledger.specs.Zones.{in_zone};
 
 /// A zone of the day, each with registers and prices of its own.
 #[derive(Clone, Copy, PartialEq, Eq, Debug)]
@@ -30,9 +30,9 @@ pub struct ByZone<T> {
 }
 
 impl<T: Copy> ByZone<T> {
-    /// The value of a zone.
-    pub fn of(self, zone: Zone) -> T
-        ensures { result ≡ of_zone self zone }
+    /// The value in a zone.
+    pub fn in_zone(self, zone: Zone) -> T
+        ensures { result ≡ in_zone self zone }
     {
         match zone {
             Zone::Day => self.day,

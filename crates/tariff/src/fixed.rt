@@ -2,7 +2,7 @@
 ghost use Rattle.tariff.specs.Charges.{capped_bounded, charged};
 
 use crate::class::Class;
-use crate::prices::{Prices, charge};
+use crate::prices::Prices;
 use crate::service::Service;
 use crate::tariff::Tariff;
 use calendar::days::Month;
@@ -20,6 +20,6 @@ impl Tariff for FixedTariff {
     ghost bounded = { λ _ _ _ _. capped_bounded _ };
 
     fn price_of(&self, _month: Month, service: Service, class: Class) -> u32 {
-        charge(&self.prices, service, class)
+        self.prices.charge(service, class)
     }
 }

@@ -1,4 +1,6 @@
 //! A row of a schedule.
+ghost use Rattle.std.specs.Prelude.{◌≡◌};
+
 use crate::prices::Prices;
 use calendar::days::Month;
 
@@ -9,4 +11,15 @@ pub struct Row {
     pub first_month: Month,
     /// The prices.
     pub prices: Prices,
+}
+
+impl Row {
+    ghost use Rattle.tariff.specs.Schedules.{has_begun};
+
+    // Whether the first month is the month asked or before it.
+    pub(crate) fn has_begun(&self, month: Month) -> bool
+        ensures { result ≡ has_begun month self.now }
+    {
+        self.first_month <= month
+    }
 }

@@ -1,10 +1,9 @@
 //! The tariff that changes from month to month.
 ghost use Rattle.std.specs.Prelude.{◌≡◌};
 ghost use Rattle.tariff.specs.Charges.{capped, capped_bounded};
-ghost use Rattle.tariff.specs.Schedules.{has_begun, in_force, scheduled};
+ghost use Rattle.tariff.specs.Schedules.{in_force, scheduled};
 
 use crate::class::Class;
-use crate::prices::charge;
 use crate::row::Row;
 use crate::service::Service;
 use crate::tariff::Tariff;
@@ -17,6 +16,19 @@ pub struct Schedule<'a> {
     pub rows: &'a [Row],
 }
 
+impl<'a> Schedule<'a> {
+    // The last row that has begun, if any has.
+    fn row_in_force(&self, month: Month) -> Option<Row>
+        ensures { result ≡ in_force month self.now.rows.now }
+    {
+        self.rows
+            .iter()
+            .rev()
+            .find(|row| row.has_begun(month))
+            .copied()
+    }
+}
+
 impl<'a> Tariff for Schedule<'a> {
     ghost price = { λ schedule month service class.
         capped (scheduled (in_force month schedule.rows.now) service class) };
@@ -24,20 +36,7 @@ impl<'a> Tariff for Schedule<'a> {
     ghost bounded = { λ _ _ _ _. capped_bounded _ };
 
     fn price_of(&self, month: Month, service: Service, class: Class) -> u32 {
-        row_in_force(self.rows, month).map_or(0, |row| charge(&row.prices, service, class))
+        self.row_in_force(month)
+            .map_or(0, |row| row.prices.charge(service, class))
     }
-}
-
-// The last row that has begun, if any has.
-fn row_in_force(rows: &[Row], month: Month) -> Option<Row>
-    ensures { result ≡ in_force month rows.now }
-{
-    rows.iter().rev().find(|row| has_begun(row, month)).copied()
-}
-
-// Whether a row's first month is the month asked or before it.
-fn has_begun(row: &Row, month: Month) -> bool
-    ensures { result ≡ has_begun month row.now }
-{
-    row.first_month <= month
 }
