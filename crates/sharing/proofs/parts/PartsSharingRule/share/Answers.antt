@@ -6,7 +6,7 @@ use Rattle.sharing.specs.Refusals.{answer}
 use Rattle.sharing.specs.Rules.{ahead, reserved}
 use Rattle.sharing.proofs.Admission.{admitted, admits}
 use Rattle.sharing.specs.Fairness.{reserved_in_pool, length_less, get_or_less}
-use Rattle.sharing.proofs.Layers.{aside_more, added_more, aside_all, rest_all, at_start, rest_admitted}
+use Rattle.sharing.proofs.Layers.{own_fits, aside_more, added_more, all_aside, at_start, rest_admitted}
 use Rattle.sharing.proofs.parts.PartsSharingRule.share.Goals as goal
 
 pub loop-need-init : goal.loop-need-init
@@ -20,6 +20,14 @@ loop-need-init g c =
       same = refl;
       written = ap (λ l. l ++ less ns first) none;
     }
+
+pub overflow_sub-left : goal.overflow_sub-left
+overflow_sub-left g c =
+    let ns = c.args.needs.now in
+    let ps = c.args.self.now.parts in
+    let turn = zip_turn ns ps c.loop-need.yielded c.into_iter-need-iterator.result c.loop-need.need-iterator c.next.new.self _ (cc) (cc) c.loop-need.yielded_by _ c.in-Some.is c.next.ensures.steps in
+    let own = c.ahead-own.ensures ∙ ap₂ (ahead c.args.pool) (turn.3 0) (turn.2 0) in
+    own_fits c.args.pool ps ns (length c.loop-need.yielded) _ turn.0 own c.loop-need.left c.loop-need.invariant.fits
 
 pub loop-need-preserved : goal.loop-need-preserved
 loop-need-preserved g c =
@@ -40,12 +48,27 @@ returns-in_err-share-clause-answers g c =
     let asked = admitted pool ns places c.in_ok-admit.ensures in
     let end = zip_end ns ps c.loop-need.yielded c.into_iter-need-iterator.result c.loop-need.need-iterator c.next.new.self _ (cc) (cc) c.loop-need.yielded_by c.in-None.is c.next.ensures.steps in
     let done : length ns ≤ length c.loop-need.yielded = omega (arith, end, asked.few) in
-    let inv = c.loop-need.invariant in
-    let left = aside_all pool ps ns (length c.loop-need.yielded) done c.loop-need.left _ inv.same in
-    let rest = c.deref.ensures.0 ∙ rest_all pool ps ns (length c.loop-need.yielded) done _ _ inv.written in
+    let all = all_aside pool ps ns (length c.loop-need.yielded) done _ _ _ _ c.loop-need.invariant in
+    let rest = c.deref.ensures.0 ∙ all.1 in
     let fit = rest_admitted pool ns (reserved pool ps ns) places asked in
-    let never = c.in_err-share.ensures.answers ∙ ap₂ (λ p l. answer p l places) left rest ∙ admits _ _ places fit in
+    let never = c.in_err-share.ensures.answers ∙ ap₂ (λ p l. answer p l places) all.0 rest ∙ admits _ _ places fit in
     cc
+
+pub loop-place-init : goal.loop-place-init
+loop-place-init g c =
+    let pool = c.args.pool in
+    let ps = c.args.self.now.parts in
+    let ns = c.args.needs.now in
+    let asked = admitted pool ns (length c.args.shares.now) c.in_ok-admit.ensures in
+    let end = zip_end ns ps c.loop-need.yielded c.into_iter-need-iterator.result c.loop-need.need-iterator c.next.new.self _ (cc) (cc) c.loop-need.yielded_by c.in-None.is c.next.ensures.steps in
+    let done : length ns ≤ length c.loop-need.yielded = omega (arith, end, asked.few) in
+    let all = all_aside pool ps ns (length c.loop-need.yielded) done _ _ _ _ c.loop-need.invariant in
+    let rest = c.deref.ensures.0 ∙ all.1 in
+    record {
+      given = c.in_ok-share.ensures.writes ∙ ap₂ (g.R.SharingRule.sharing c.args.self.now.rule) all.0 rest;
+      same = refl;
+      begun = refl;
+    }
 
 pub overflow_add-shares : goal.overflow_add-shares
 overflow_add-shares g c =
