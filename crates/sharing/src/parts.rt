@@ -1,5 +1,5 @@
 //! Parts, a layer over any rule.
-ghost use Rattle.std.specs.Prelude.{◌≡◌, ◌<◌, ◌≤◌, replicate, sum, slice_index};
+ghost use Rattle.std.specs.Prelude.{◌≡◌, ◌≤◌, replicate, sum};
 ghost use Rattle.sharing.specs.Refusals.{parts_answer, written};
 ghost use Rattle.sharing.specs.Rules.{ahead, with_parts};
 ghost use Rattle.sharing.specs.Fairness.{with_parts_fair};
