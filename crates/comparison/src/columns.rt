@@ -10,6 +10,7 @@ use sharing::proportion::Proportion;
 use sharing::rule::{PLACES, SharingRule, left_of};
 use std::alloc::{AllocError, Global};
 
+// A list and no pairs with the needs: a rule writes its shares into a slice of numbers.
 /// The shares by a rule, and what it leaves of the pool.
 #[derive(Drop)]
 pub struct Column {

@@ -22,6 +22,7 @@ pub enum Problem {
     Memory,
 }
 
+// By hand: a derive of the kit states no words (`thiserror` states no `output`), and these are proved.
 impl fmt::Display for Problem {
     ghost output = { λ problem. Some (problem_told problem) };
 
@@ -35,6 +36,7 @@ impl fmt::Display for Problem {
     }
 }
 
+// Each `From` by hand: a derive states nothing of the case that `?` makes, and `from_gives` says it.
 impl From<ShareRefusal> for Problem {
     ghost from_gives = { λ e r. r ≡ OfRule e };
 
@@ -51,6 +53,7 @@ impl From<PartsRefusal> for Problem {
     }
 }
 
+// `AllocError` and `AllocFailed` apart: one for every error of memory would overlap with those of the refusals.
 impl From<AllocError> for Problem {
     ghost from_gives = { λ _ r. r ≡ Memory };
 
@@ -59,7 +62,6 @@ impl From<AllocError> for Problem {
     }
 }
 
-// Not one `From` for both: for every error of memory it would overlap with those of the refusals.
 impl<T: Drop> From<AllocFailed<T>> for Problem {
     ghost from_gives = { λ _ r. r ≡ Memory };
 

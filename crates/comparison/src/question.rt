@@ -57,6 +57,7 @@ pub struct Fault {
     pub wrong: Wrong,
 }
 
+// By hand: a derive of the kit states no words (`thiserror` states no `output`), and these are proved.
 impl fmt::Display for Fault {
     ghost output = { λ fault. Some (fault_told fault) };
 
@@ -70,7 +71,7 @@ impl fmt::Display for Fault {
     }
 }
 
-/// What is asked: a pool to be shared, the needs, and the parts that go ahead of them.
+/// What is asked, with the needs and the parts lent: a pool to be shared, and the parts that go ahead of the needs.
 #[derive(Clone, Copy)]
 pub struct Asked<'a> {
     /// The pool in kWh.

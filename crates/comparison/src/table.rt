@@ -19,24 +19,26 @@ fn share_at(column: &Column, place: usize) -> u64
 fn row(alloc: Global, place: usize, need: u64, c: &Comparison) -> Result<String, AllocError>
     ensures { IfOk result (λ s. string_bytes s ≡ place_row c.now place need) }
 {
-    let line_order = share_at(&c.line_order, place);
-    let proportion = share_at(&c.proportion, place);
-    let over_line_order = share_at(&c.parts_over_line_order, place);
-    let over_proportion = share_at(&c.parts_over_proportion, place);
     format!(in alloc;
-        "{place},{need},{line_order},{proportion},{over_line_order},{over_proportion}\n"
+        "{place},{need},{},{},{},{}\n",
+        share_at(&c.line_order, place),
+        share_at(&c.proportion, place),
+        share_at(&c.parts_over_line_order, place),
+        share_at(&c.parts_over_proportion, place),
     )
 }
 
-// The line of what is left of the pool.
+// The line of what is left of the pool. One format for both lines would want what stands in front as a text of its own.
 fn rest(alloc: Global, c: &Comparison) -> Result<String, AllocError>
     ensures { IfOk result (λ s. string_bytes s ≡ last_row c.now) }
 {
-    let line_order = c.line_order.left;
-    let proportion = c.proportion.left;
-    let over_line_order = c.parts_over_line_order.left;
-    let over_proportion = c.parts_over_proportion.left;
-    format!(in alloc; "left,-,{line_order},{proportion},{over_line_order},{over_proportion}\n")
+    format!(in alloc;
+        "left,-,{},{},{},{}\n",
+        c.line_order.left,
+        c.proportion.left,
+        c.parts_over_line_order.left,
+        c.parts_over_proportion.left,
+    )
 }
 
 /// The table as text: a line of names, a line for each place, and a line of what is left of the pool.

@@ -38,6 +38,10 @@ module _ (pool : ℕ) (parts ns : List ℕ) (place own : ℕ) (within : place < 
   from_more : from pool parts ns place ≡ own ∷ from pool parts ns (place + 1)
   from_more = rw add-one (from_suc pool parts ns place within ∙ ap (λ x. x ∷ from pool parts ns (suc place)) (sym is))
 
+  -- what the place gets ahead is there in what is left of the pool
+  pub own_fits : (left : ℕ) → sum (from pool parts ns place) ≤ left → own ≤ left
+  own_fits left fits = omega (arith, fits, ap sum from_more ∙ sum_cons own (from pool parts ns (place + 1)))
+
   -- one place more is set aside from the pool and from the needs
   pub aside_more : (left : ℕ) (rest next : List ℕ) (total : ℕ) (whole : List ℕ) → Aside pool parts ns place left rest total whole →
       next ≡ rest ++ ((get_or ns place 0 - own) ∷ []) → Aside pool parts ns (place + 1) (left - own) next total whole
@@ -70,12 +74,11 @@ module _ (pool : ℕ) (parts ns : List ℕ) (place : ℕ) (done : length ns ≤ 
   from_all : from pool parts ns place ≡ []
   from_all = ap (reserved pool (drop place parts)) (drop_all place ns done)
 
-  pub aside_all : (left : ℕ) (total : ℕ) → left - sum (from pool parts ns place) ≡ total → left ≡ total
-  aside_all left total same = omega (arith, ap sum from_all)
-
-  pub rest_all : (rest whole : List ℕ) → rest ++ less (drop place ns) (from pool parts ns place) ≡ whole → rest ≡ whole
-  rest_all rest whole written =
-      sym (append-nil rest) ∙ ap (λ l. rest ++ l) (sym (ap (λ l. less l (from pool parts ns place)) (drop_all place ns done))) ∙ written
+  pub all_aside : (left : ℕ) (rest : List ℕ) (total : ℕ) (whole : List ℕ) → Aside pool parts ns place left rest total whole → (left ≡ total) × (rest ≡ whole)
+  all_aside left rest total whole aside = (
+    omega (arith, aside.same, ap sum from_all),
+    sym (append-nil rest) ∙ ap (λ l. rest ++ l) (sym (ap (λ l. less l (from pool parts ns place)) (drop_all place ns done))) ∙ aside.written,
+  )
 
 -- what is left of an admitted pool and its needs is admitted
 pub rest_admitted : (pool : ℕ) (needs first : List ℕ) (places : ℕ) → Admitted pool needs places → Admitted (pool - sum first) (less needs first) places

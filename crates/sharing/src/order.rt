@@ -16,8 +16,8 @@ impl SharingRule for LineOrder {
 
     fn share(&self, pool: u64, needs: &[u64], shares: &mut [u64]) -> Result<(), ShareRefusal> {
         admit(pool, needs, shares.len())?;
-        // The order is the rule: what a place leaves is handed on to the one after it.
         let mut left = pool;
+        // By places, in the order that is the rule: after `shares.iter_mut().zip(needs)` no proof knows what was written.
         for (place, need) in needs.iter().enumerate() {
             let share = left.min(*need);
             shares[place] = share;

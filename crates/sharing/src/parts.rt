@@ -1,5 +1,5 @@
 //! Parts, a layer over any rule.
-ghost use Rattle.std.specs.Prelude.{◌≡◌, ◌<◌, ◌≤◌, replicate, sum, slice_index};
+ghost use Rattle.std.specs.Prelude.{◌≡◌, ◌≤◌, replicate, sum};
 ghost use Rattle.sharing.specs.Refusals.{parts_answer, written};
 ghost use Rattle.sharing.specs.Rules.{ahead, with_parts};
 ghost use Rattle.sharing.specs.Fairness.{with_parts_fair};
@@ -44,15 +44,6 @@ impl<R> Parts<R> {
         self.parts.copy_from_slice(parts);
         Ok(())
     }
-
-    // What the place gets ahead of the others.
-    fn ahead_at(&self, place: usize, pool: u64, need: u64) -> u64
-        requires place { place < 32 }
-        requires pool { pool ≤ 1000000000 }
-        ensures { result ≡ ahead pool (slice_index self.now.parts place) need }
-    {
-        (pool * self.parts[place] / WHOLE).min(need)
-    }
 }
 
 impl<R: SharingRule> SharingRule for Parts<R> {
@@ -65,16 +56,25 @@ impl<R: SharingRule> SharingRule for Parts<R> {
         admit(pool, needs, shares.len())?;
         let mut left = pool;
         let mut rest = ArrayVec::<u64, PLACES>::new();
-        for (place, need) in needs.iter().enumerate() {
-            let own = self.ahead_at(place, pool, *need);
+        for (need, part) in needs.iter().zip(&self.parts) {
+            let own = ahead(pool, *part, *need);
             left -= own;
             rest.push(*need - own);
         }
         self.rule.share(left, &rest, shares)?;
         // By places: after `shares.iter_mut().zip(needs)` no proof knows what was written.
         for (place, need) in needs.iter().enumerate() {
-            shares[place] += self.ahead_at(place, pool, *need);
+            shares[place] += ahead(pool, self.parts[place], *need);
         }
         Ok(())
     }
+}
+
+// What a place gets ahead of the others.
+fn ahead(pool: u64, part: u64, need: u64) -> u64
+    requires pool { pool ≤ 1000000000 }
+    requires part { part ≤ 10000 }
+    ensures { result ≡ ahead pool part need }
+{
+    (pool * part / WHOLE).min(need)
 }

@@ -12,7 +12,7 @@ pub enum PartsRefusal {
 }
 
 impl PartsRefusal {
-    // By `match`, as in `ShareRefusal`.
+    // By `match`: it is as short as a conversion to a number, and each number stands beside its case.
     /// The refusal's number.
     pub fn number(self) -> u8
         ensures { result ≡ (parts_meaning self).number }
@@ -32,6 +32,7 @@ impl PartsRefusal {
     }
 }
 
+// By hand: a derive of the kit states no words (`thiserror` states no `output`), and these are proved.
 // Like that of `ShareRefusal`: no one `Display` can serve every type of a trait.
 impl fmt::Display for PartsRefusal {
     ghost output = { λ refusal. Some (told (parts_meaning refusal)) };

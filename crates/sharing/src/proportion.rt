@@ -19,8 +19,8 @@ impl SharingRule for Proportion {
         admit(pool, needs, shares.len())?;
         let all = saturating_sum(needs);
         let given = pool.min(all);
-        // By places: after `shares.iter_mut().zip(needs)` no proof knows what was written.
         let mut before = 0;
+        // By places: after `shares.iter_mut().zip(needs)` no proof knows what was written.
         for (place, need) in needs.iter().enumerate() {
             shares[place] = share_of(given, all, before, *need);
             before += *need;

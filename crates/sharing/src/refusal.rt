@@ -14,7 +14,7 @@ pub enum ShareRefusal {
 }
 
 impl ShareRefusal {
-    // By `match`, and not as discriminants: the contract, not the compiler, refuses a wrong number.
+    // By `match`: it is as short as a conversion to a number, and each number stands beside its case.
     /// The refusal's number.
     pub fn number(self) -> u8
         ensures { result ≡ (meaning self).number }
@@ -36,6 +36,7 @@ impl ShareRefusal {
     }
 }
 
+// By hand: a derive of the kit states no words (`thiserror` states no `output`), and these are proved.
 impl fmt::Display for ShareRefusal {
     ghost output = { λ refusal. Some (told (meaning refusal)) };
 

@@ -14,7 +14,7 @@ pub const MOST_NEED: u64 = 2_000_000;
 
 /// A rule that shares a pool of kWh among needs, by one function that keeps the law `Fair`.
 pub trait SharingRule {
-    // The rule as a function from a pool and a list of needs to a list of shares, which its call takes apart as well.
+    // The rule as the function from a pool and a list of needs that it is, which is why its call takes the two apart.
     ghost sharing: { Self → ℕ → List ℕ → List ℕ };
 
     /// Writes the shares of the needs into `shares`, or refuses and leaves it as it was.
