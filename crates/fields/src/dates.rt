@@ -56,7 +56,7 @@ fn four_digits(thousands: u8, hundreds: u8, tens: u8, ones: u8) -> Option<u16>
     Some(front as u16 * HUNDRED + back as u16)
 }
 
-// The number that two digits write.
+// The number that two digits write. Each is read by itself, since the pattern of a date names them.
 fn two_digits(tens: u8, ones: u8) -> Option<u8>
     ensures { TwoDigits tens ones result }
 {

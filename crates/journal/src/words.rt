@@ -118,6 +118,7 @@ impl<W: Worded> Column for Word<W> {
     }
 }
 
+// The first field of every line is a kind, so a kind is a column without a wrapper too.
 impl Column for Kind {
     ghost spelling = { record {
       form = KindForm;

@@ -30,6 +30,7 @@ impl ReadRefusal {
     }
 }
 
+// By hand: a derive would not state the case that `?` makes.
 impl From<WrongField> for ReadRefusal {
     ghost from_gives = { λ wrong r. r ≡ Form wrong.number };
 

@@ -68,7 +68,7 @@ impl Figures for YearEnd {
     }
 }
 
-// The slice and the place are passed apart, as to the writer of rows.
+// The month, the member's place and the figures are the line's own, and are told apart in it; the slice and the place in it are passed as to the writer of rows.
 /// Writes the line of a member's figures from `at` on, and answers the place after it; or refuses, with the slice as it was, exactly where there is no room.
 pub fn write_figures<F: Figures>(
     month: Month,

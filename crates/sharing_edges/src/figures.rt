@@ -5,7 +5,7 @@ use sharing::proportion::Proportion;
 use sharing::rule::SharingRule;
 use std::process::Abort;
 
-// A pool, three needs, and the three shares.
+// A pool, three needs, and the three shares; in tuples, since a proof does not know the length of an array out of a struct.
 #[derive(Clone, Copy)]
 struct Case(u64, (u64, u64, u64), (u64, u64, u64));
 
