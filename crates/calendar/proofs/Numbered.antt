@@ -1,6 +1,7 @@
 -- A date and its day determine each other.
 use Rattle.std.proofs.Common.{◌≡◌, ℕ, ◌+◌, ◌-◌, ◌/◌, ◌%◌, ◌<◌, ◌≤◌, true, get_or, Some, None, Option, sym, ap, ◌∙◌, ap₂, arith, MatchOption}
 use Rattle.std.proofs.lemmas.Bool.Decides.{nat_tests}
+use Rattle.std.specs.Option.{SomeIff}
 use Rattle.calendar.specs.Dates.{Agree, DateOf, date_in, day_number, day_of_date, is_date, month_of_date}
 use Rattle.calendar.specs.Gregorian.{first_day, length_of, lengths}
 use Rattle.calendar.specs.declared.date.Date.{Date}
@@ -33,16 +34,17 @@ length_at d year from to =
     let same_place : d.month - 1 ≡ month % 12 = omega arith in
     ap₂ (λ y k. get_or (lengths y) k 0) same_year same_place
 
--- where the day of the month is none of the month's, there is no date
-module _ (d : Date) (year_from : 2000 ≤ d.year) (year_to : d.year ≤ 2099) (month_from : 1 ≤ d.month) (month_to : d.month ≤ 12) where
-  month_long : get_or (lengths d.year) (d.month - 1) 0 ≡ first_day (month_of_date d + 1) - first_day (month_of_date d)
-  month_long = omega (arith, length_at d year_from month_from month_to, first_next (month_of_date d))
-
-  pub no_such_day : first_day (month_of_date d + 1) - first_day (month_of_date d) < d.day → None ≡ day_of_date d
-  no_such_day late = let long = month_long in grind (arith, nat_tests)
-
-  pub such_a_day : 1 ≤ d.day → d.day ≤ first_day (month_of_date d + 1) - first_day (month_of_date d) → Some (day_number d) ≡ day_of_date d
-  such_a_day from to = let long = month_long in grind (arith, nat_tests)
+-- what is the day of that month, or none, is the day of the date, or none
+pub told_by_month : (d : Date) → 2000 ≤ d.year → d.year ≤ 2099 → 1 ≤ d.month → d.month ≤ 12 → (month : ℕ) → month ≡ month_of_date d → (r : Option ℕ)
+    → SomeIff r ((1 ≤ d.day) × (d.day ≤ length_of month)) (first_day month + (d.day - 1)) → r ≡ day_of_date d
+told_by_month d year_from year_to month_from month_to month is None no_day =
+    let long = length_at d year_from month_from month_to ∙ ap length_of (sym is) in
+    let no_date : is_date d ≡ true → None ≡ day_of_date d = λ holds. absurd (no_day ((real d holds).day_from, omega (arith, long, (real d holds).day_to))) in
+    grind (arith, nat_tests)
+told_by_month d year_from year_to month_from month_to month is (Some day) one =
+    let long = length_at d year_from month_from month_to ∙ ap length_of (sym is) in
+    let number : day ≡ day_number d = one.1 ∙ ap (λ m. first_day m + (d.day - 1)) is in
+    grind (arith, nat_tests)
 
 -- the day of a date lies in its month
 pub record Lies (d : Date) (day : ℕ) : Type 0 where
@@ -93,9 +95,9 @@ pub date_found : (month day : ℕ) → month ≤ 1199 → first_day month ≤ da
 date_found month day few begun ahead =
     let d = date_in month (day - first_day month) in
     let same : month_of_date d ≡ month = omega arith in
-    let number : day_number d ≡ day = omega (arith, ap first_day same) in
-    let next : first_day (month_of_date d + 1) ≡ first_day (month + 1) = ap (λ m. first_day (m + 1)) same in
-    one_date d day (sym (such_a_day d (omega arith) (omega arith) (omega arith) (omega arith) (omega arith) (omega (arith, ap first_day same, next))) ∙ ap Some number)
+    let in_month : d.day ≤ length_of month = omega (arith, first_next month) in
+    let found = told_by_month d (omega arith) (omega arith) (omega arith) (omega arith) month (sym same) (Some day) ((omega arith, in_month), omega arith) in
+    one_date d day (sym found)
 
 pub agree : Agree
 agree = record {

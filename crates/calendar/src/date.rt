@@ -1,6 +1,8 @@
 //! Dates by year, month and day of the month.
-ghost use Rattle.std.specs.Prelude.{◌≡◌, ◌<◌, ◌≤◌, if◌then◌else◌, Some, None, nat_le};
+ghost use Rattle.std.specs.Prelude.{◌≡◌, ◌+◌, ◌-◌, ◌<◌, ◌≤◌, if◌then◌else◌, Some, None, nat_le};
+ghost use Rattle.std.specs.Option.{SomeIff};
 ghost use Rattle.calendar.specs.Dates.{Agree, DateOf, MonthIn, date_in, date_of_day, day_of_date};
+ghost use Rattle.calendar.specs.Gregorian.{first_day, length_of};
 
 use crate::days::{Day, Month, first, month_of};
 
@@ -52,11 +54,18 @@ pub fn first_date_of(month: Month) -> Date
 pub fn day_of(date: Date) -> Option<Day>
     ensures { result ≡ day_of_date date }
 {
-    let month = month_in(date.year, date.month)?;
+    day_in(month_in(date.year, date.month)?, date.day)
+}
+
+// The day of a month so counted from 1, or none where the month has no such day.
+fn day_in(month: Month, day: u8) -> Option<Day>
+    requires { month ≤ 1199 }
+    ensures { SomeIff result ((1 ≤ day) × (day ≤ length_of month)) (first_day month + (day - 1)) }
+{
     let begins = first(month);
     // The table has the month's length, so that the leap years need no test here.
     let length = first(month + 1) - begins;
-    let after = (date.day as Day).checked_sub(1)?;
+    let after = (day as Day).checked_sub(1)?;
     (after < length).then(|| begins + after)
 }
 

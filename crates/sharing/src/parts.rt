@@ -21,10 +21,12 @@ pub struct Parts<R> {
 }
 
 impl<R> Parts<R> {
+    ghost use Rattle.sharing.specs.Layer.{parts_of, rule_below};
+
     /// The layer over `rule` in which every part is 0.
     pub fn over(rule: R) -> Parts<R>
-        ensures parts { result.parts ≡ replicate 32 0 }
-        ensures below { result.rule ≡ rule }
+        ensures parts { parts_of result ≡ replicate 32 0 }
+        ensures below { rule_below result ≡ rule }
     {
         Parts {
             parts: [0; PLACES],
@@ -35,8 +37,8 @@ impl<R> Parts<R> {
     /// Sets all parts, or refuses and leaves them as they were.
     pub fn set(&mut self, parts: &[u64]) -> Result<(), PartsRefusal>
         ensures answers { result ≡ parts_answer parts.now }
-        ensures writes { self.new.parts ≡ written result parts.now self.old.parts }
-        ensures below { self.new.rule ≡ self.old.rule }
+        ensures writes { parts_of self.new ≡ written result parts.now (parts_of self.old) }
+        ensures below { rule_below self.new ≡ rule_below self.old }
     {
         if parts.len() != PLACES || saturating_sum(parts) > WHOLE {
             return Err(PartsRefusal::Parts);
@@ -47,10 +49,12 @@ impl<R> Parts<R> {
 }
 
 impl<R: SharingRule> SharingRule for Parts<R> {
-    ghost sharing = { λ layer. with_parts (R.SharingRule.sharing layer.rule) layer.parts };
+    ghost use Rattle.sharing.specs.Layer.{parts_of, rule_below};
+
+    ghost sharing = { λ layer. with_parts (R.SharingRule.sharing (rule_below layer)) (parts_of layer) };
 
     ghost fair = { λ layer.
-        with_parts_fair _ (R.SharingRule.fair layer.rule) layer.parts layer.whole };
+        with_parts_fair _ (R.SharingRule.fair (rule_below layer)) (parts_of layer) layer.whole };
 
     fn share(&self, pool: u64, needs: &[u64], shares: &mut [u64]) -> Result<(), ShareRefusal> {
         admit(pool, needs, shares.len())?;
