@@ -2,7 +2,7 @@
 use crate::zone::ByZone;
 
 /// The figures of a member's month.
-#[derive(Clone, Copy, PartialEq, Eq, Debug)]
+#[derive(Clone, Copy, PartialEq, Eq, Debug, Default)]
 pub struct Bill {
     /// The kWh billed in each zone.
     pub billed: ByZone<u32>,

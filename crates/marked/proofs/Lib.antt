@@ -1,1 +1,2 @@
 mod LeapDays
+mod Readings

@@ -1,10 +1,14 @@
 -- Worked cases of the rules, each from the definitions that the contracts of the code cite.
-use Rattle.std.specs.Prelude.{◌≡◌, ℕ, List, [], ◌∷◌, replicate, pos, negsuc, ◌+ℤ◌, Some, None, Ok, Err, codes}
+use Rattle.std.specs.Prelude.{◌≡◌, ℕ, ◌+◌, ◌<◌, ◌≤◌, List, [], ◌∷◌, replicate, pos, negsuc, ◌+ℤ◌, Some, None, Ok, Err, codes}
 use Rattle.std.specs.Int.{int_rem_euclid}
 use Rattle.billing.specs.Accounts.{drams_of, owing}
 use Rattle.billing.specs.declared.account.Account.{Account}
 use Rattle.calendar.specs.Dates.{day_of_date}
 use Rattle.calendar.specs.declared.date.Date.{Date}
+use Rattle.group.specs.Refusals.{number_of}
+use Rattle.group.specs.Registers.{opened_register, quantity, read, tally_with}
+use Rattle.group.specs.declared.refusal.BookRefusal.TheVariants.{Below, Tally}
+use Rattle.group.specs.declared.register.Register.{Register}
 use Rattle.journal.specs.Lines.{LineRead}
 use Rattle.lines.specs.Refusals.{read_number}
 use Rattle.lines.specs.declared.line.Line.TheVariants.{Enter}
@@ -59,3 +63,20 @@ pub record ReadOrRefused : Type 0 where
   pub leap_day_of_2024 : LineRead (codes "READ,0,DAY,GIVE,900,-,2024-02-29\n") (Ok (Enter (Reading register 8825 900)))
   pub no_leap_day_of_2023 : LineRead (codes "READ,0,DAY,GIVE,900,-,2023-02-29\n") (Err (Form 7))
   pub by_number : read_number (Form 7) ≡ 26
+
+-- a register that stands at some value, with nothing tallied
+abbrev standing : ℕ → Register
+standing value = opened_register value
+
+-- a reading that equals its register has quantity 0 and changes nothing; one that is one lower is refused by 17
+pub record ReadAgain : Type 0 where
+  pub nothing_more : (value : ℕ) → quantity value value ≡ Some 0
+  pub as_before : (value : ℕ) → value ≤ 9999999 → read 0 0 value value (standing value) ≡ Ok (standing value)
+  pub one_lower : (value : ℕ) → value < 9999999 → read 0 0 value value (standing (value + 1)) ≡ Err Below
+  pub by_number : number_of Below ≡ 17
+
+-- a tally of 1,000,000 stands, and one more is refused by 18
+pub record Tallied : Type 0 where
+  pub stands : tally_with (pos 999999) (pos 1) ≡ Ok (pos 1000000)
+  pub one_more : tally_with (pos 1000000) (pos 1) ≡ Err Tally
+  pub by_number : number_of Tally ≡ 18

@@ -1,0 +1,87 @@
+-- The balance: no kWh and no hundredth of a dram is lost or invented, and no issue both bills and carries in a zone.
+use Rattle.std.specs.Prelude.{◌≡◌, ℕ, List, [], ◌∷◌, length, take, Result, ◌⊎◌, ℤ, pos, ◌+ℤ◌, ◌-ℤ◌, Ok, Err}
+use Rattle.billing.specs.Accounts.{worth}
+use Rattle.ledger.specs.Zones.{in_zone}
+use Rattle.ledger.specs.declared.bill.Bill.{Bill}
+use Rattle.ledger.specs.declared.zone.Flow.TheVariants.{Consumed, Delivered}
+use Rattle.ledger.specs.declared.zone.Zone.{Zone}
+use Rattle.group.specs.Groups.{blank, member_at}
+use Rattle.group.specs.declared.group.Group.{Group}
+use Rattle.group.specs.declared.member.Member.{Member}
+use Rattle.group.specs.declared.refusal.BookRefusal.{BookRefusal}
+use Rattle.steps.specs.Books.{BookState}
+use Rattle.steps.specs.Drafts.{Stamp}
+use Rattle.steps.specs.Months.{Prices, Share}
+use Rattle.balance.specs.Histories.{Happens, Event, Leads, Issuing}
+use Rattle.balance.specs.Postings.{Posting, billed, billed_by, entered_in, open_in, owed, paid_in, postings}
+
+-- the net delivery of entries: what is delivered less what is consumed
+abbrev pub delivery_in : Zone → List Posting → ℤ
+delivery_in zone posts = entered_in zone Delivered posts -ℤ entered_in zone Consumed posts
+
+-- that of the entries since the last issue
+abbrev pub open_delivery_in : Zone → List Posting → ℤ
+open_delivery_in zone posts = open_in zone Delivered posts -ℤ open_in zone Consumed posts
+
+-- no kWh is lost or invented: what was delivered less what was consumed is what is carried and was paid at year ends,
+-- less what was billed, and the open month's net delivery
+abbrev pub EnergyBalances : Zone → List Posting → Group → Type 0
+EnergyBalances zone posts group =
+    delivery_in zone posts
+    ≡ ((pos (in_zone group.carried zone) +ℤ pos (paid_in zone posts)) -ℤ pos (billed zone posts))
+    +ℤ open_delivery_in zone posts
+
+-- no hundredth of a dram is lost or invented: 100 × debt + fraction is what was charged, less what was paid and credited
+abbrev pub MoneyBalances : (ℕ → Prices) → (place : ℕ) → List Posting → Group → Type 0
+MoneyBalances prices place posts group =
+    (member : Member) → member_at place group ≡ Ok member → worth member.account ≡ owed prices place posts
+
+-- where the latest call issued lines, it did not both bill in a zone and carry in it
+abbrev pub NotBoth : Zone → List Event → Group → Type 0
+NotBoth zone (Issuing stamp places (Ok lines) ∷ earlier) group =
+    (billed_by zone lines ≡ 0) ⊎ (in_zone group.carried zone ≡ 0)
+NotBoth zone history group = Unit {0}
+
+-- the balance of a history and the group that it leads to
+pub record Balanced (prices : ℕ → Prices) (history : List Event) (group : Group) : Type 0 where
+  pub energy : (zone : Zone) → EnergyBalances zone (postings history) group
+  pub money : (place : ℕ) → MoneyBalances prices place (postings history) group
+  pub not_both : (zone : Zone) → NotBoth zone history group
+
+-- the history leads to the group, and at its start and after each of its calls there is balance
+abbrev pub BalancedThroughout : Share → (ℕ → Prices) → List Event → Group → Type 0
+BalancedThroughout share prices [] group = (group ≡ blank) × Balanced prices [] group
+BalancedThroughout share prices (event ∷ history) group =
+    (before : Group) × BalancedThroughout share prices history before
+    × Happens share prices before event group × Balanced prices (event ∷ history) group
+
+-- a history leads to a book, by the functions that its rule and its tariff are
+abbrev pub LeadsTo : {R T : Type 0} → (R → Share) → (T → ℕ → Prices) → List Event → BookState R T → Type 0
+LeadsTo share prices history book = Leads (share book.rule) (prices book.tariff) history book.group
+
+-- for every history that leads to the book as it was, the history with this call and its answer leads to the book as it is,
+-- and balances, at its start and after each of its calls
+abbrev pub GoesOnBalanced : {R T : Type 0} → (R → Share) → (T → ℕ → Prices) → (old : BookState R T) → Event → (new : BookState R T) → Type 0
+GoesOnBalanced share prices old event new =
+    (history : List Event) → LeadsTo share prices history old
+    → LeadsTo share prices (event ∷ history) new
+    × BalancedThroughout (share new.rule) (prices new.tariff) (event ∷ history) new.group
+
+-- the empty history leads to the book, and balances
+abbrev pub BeginsBalanced : {R T : Type 0} → (R → Share) → (T → ℕ → Prices) → (book : BookState R T) → Type 0
+BeginsBalanced share prices book =
+    LeadsTo share prices [] book × BalancedThroughout (share book.rule) (prices book.tariff) [] book.group
+
+-- the lines of a group that stand in a slice, one for each member
+abbrev pub lines_in : Group → List Bill → List Bill
+lines_in group slice = take (length group.members.items) slice
+
+-- what a drawing answers, with the lines that it wrote
+abbrev pub drawing_told : Result Stamp BookRefusal → List Bill → Result (Stamp × List Bill) BookRefusal
+drawing_told (Ok stamp) lines = Ok (stamp, lines)
+drawing_told (Err refusal) lines = Err refusal
+
+-- what an issue answers: the lines that it wrote
+abbrev pub issue_told : Result (Unit {0}) BookRefusal → List Bill → Result (List Bill) BookRefusal
+issue_told (Ok done) lines = Ok lines
+issue_told (Err refusal) lines = Err refusal

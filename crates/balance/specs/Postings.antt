@@ -1,0 +1,184 @@
+-- What a history posts, and the sums of it, told by its calls and their answers alone.
+use Rattle.std.specs.Prelude.{ℕ, ◌+◌, ◌-◌, ◌*◌, Bool, true, false, ◌&&◌, if◌then◌else◌, List, [], ◌∷◌, ◌++◌, map, ℤ, pos, ◌+ℤ◌, ◌-ℤ◌, ◌==◌, slice_get, sum, Ok, Err, Option, Some, None, unwrap_or}
+use Rattle.std.specs.Option.{option_map_or}
+use Rattle.ledger.specs.Zones.{in_zone}
+use Rattle.ledger.specs.declared.bill.Bill.{Bill}
+use Rattle.ledger.specs.declared.bill.YearEnd.{YearEnd}
+use Rattle.ledger.specs.declared.entry.Entry.{Entry}
+use Rattle.ledger.specs.declared.entry.Entry.TheVariants.{Reading, Change, Correction, Payment}
+use Rattle.ledger.specs.declared.entry.MemberRegister.{MemberRegister}
+use Rattle.ledger.specs.declared.zone.Flow.{Flow}
+use Rattle.ledger.specs.declared.zone.Flow.TheVariants.{Consumed, Delivered}
+use Rattle.ledger.specs.declared.zone.Zone.{Zone}
+use Rattle.ledger.specs.declared.zone.Zone.TheVariants.{Day, Night}
+use Rattle.tariff.specs.declared.class.Class.{Class}
+use Rattle.tariff.specs.declared.class.Class.TheVariants.{Other}
+use Rattle.tariff.specs.declared.service.Service.{Service}
+use Rattle.tariff.specs.declared.service.Service.TheVariants as service
+use Rattle.group.specs.Members.{class_of, standing_at}
+use Rattle.group.specs.Registers.{quantity}
+use Rattle.group.specs.declared.member.OpeningRecord.{OpeningRecord}
+use Rattle.steps.specs.Months.{Prices}
+use Rattle.balance.specs.Histories.{Event, Opening, Entering, Drawing, Checking, Issuing, Withdrawing, Closing}
+
+-- what an accepted call posts
+pub data Posting : Type 0 where
+  Opened : (start holder : ℕ) → List OpeningRecord → Posting
+  Entered : Entry → Posting
+  Issued : List Bill → Posting
+  YearPaid : YearEnd → Posting
+
+-- what a call posts: refused calls, drawings, checks and withdrawals post nothing
+abbrev pub posting : Event → List Posting
+posting (Opening number start holder records (Ok done)) = Opened start holder records ∷ []
+posting (Opening number start holder records (Err refusal)) = []
+posting (Entering entry (Ok done)) = Entered entry ∷ []
+posting (Entering entry (Err refusal)) = []
+posting (Drawing places answer) = []
+posting (Checking stamp current) = []
+posting (Issuing stamp places (Ok lines)) = Issued lines ∷ []
+posting (Issuing stamp places (Err refusal)) = []
+posting (Withdrawing stamp) = []
+posting (Closing (Ok figures)) = YearPaid figures ∷ []
+posting (Closing (Err refusal)) = []
+
+-- what a history posts, the latest first
+abbrev pub postings : List Event → List Posting
+postings [] = []
+postings (event ∷ history) = posting event ++ postings history
+
+-- whether two zones, two flows, two registers are the same
+abbrev pub same_zone : Zone → Zone → Bool
+same_zone Day Day = true
+same_zone Day Night = false
+same_zone Night Day = false
+same_zone Night Night = true
+
+abbrev pub same_flow : Flow → Flow → Bool
+same_flow Consumed Consumed = true
+same_flow Consumed Delivered = false
+same_flow Delivered Consumed = false
+same_flow Delivered Delivered = true
+
+abbrev pub same_register : MemberRegister → MemberRegister → Bool
+same_register a b = a.place == b.place && (same_zone a.zone b.zone && same_flow a.flow b.flow)
+
+-- the opening value of a register
+abbrev pub opening_value : List OpeningRecord → MemberRegister → ℕ
+opening_value records at = option_map_or (standing_at at) (slice_get records at.place) 0
+
+-- the value that the latest accepted reading or change of a register left, or its opening value
+abbrev pub last_value : List Posting → MemberRegister → ℕ
+last_value [] at = 0
+last_value (Opened start holder records ∷ earlier) at = opening_value records at
+last_value (Entered (Reading of day value) ∷ earlier) at = if same_register of at then value else last_value earlier at
+last_value (Entered (Change of day value start) ∷ earlier) at = if same_register of at then start else last_value earlier at
+last_value (Entered (Correction of kwh) ∷ earlier) at = last_value earlier at
+last_value (Entered (Payment place drams) ∷ earlier) at = last_value earlier at
+last_value (Issued lines ∷ earlier) at = last_value earlier at
+last_value (YearPaid figures ∷ earlier) at = last_value earlier at
+
+-- the register and the kWh of an entry after those that were posted before it: a reading's or a final value's count from the last value, and a correction is its own; a payment has none
+abbrev pub energy : List Posting → Entry → Option (MemberRegister × ℤ)
+energy earlier (Reading of day value) = Some (of, pos (unwrap_or (quantity (last_value earlier of) value) 0))
+energy earlier (Change of day value start) = Some (of, pos (unwrap_or (quantity (last_value earlier of) value) 0))
+energy earlier (Correction of kwh) = Some (of, kwh)
+energy earlier (Payment place drams) = None
+
+-- the kWh of an entry in a zone and a flow
+abbrev pub energy_in : Zone → Flow → Option (MemberRegister × ℤ) → ℤ
+energy_in zone flow None = pos 0
+energy_in zone flow (Some (of, kwh)) = if same_zone of.zone zone && same_flow of.flow flow then kwh else pos 0
+
+-- the kWh of all entries in a zone and a flow
+abbrev pub entered_in : Zone → Flow → List Posting → ℤ
+entered_in zone flow [] = pos 0
+entered_in zone flow (Opened start holder records ∷ earlier) = entered_in zone flow earlier
+entered_in zone flow (Entered entry ∷ earlier) =
+    entered_in zone flow earlier +ℤ energy_in zone flow (energy earlier entry)
+entered_in zone flow (Issued lines ∷ earlier) = entered_in zone flow earlier
+entered_in zone flow (YearPaid figures ∷ earlier) = entered_in zone flow earlier
+
+-- the kWh of the entries since the last issue in a zone and a flow
+abbrev pub open_in : Zone → Flow → List Posting → ℤ
+open_in zone flow [] = pos 0
+open_in zone flow (Opened start holder records ∷ earlier) = open_in zone flow earlier
+open_in zone flow (Entered entry ∷ earlier) =
+    open_in zone flow earlier +ℤ energy_in zone flow (energy earlier entry)
+open_in zone flow (Issued lines ∷ earlier) = pos 0
+open_in zone flow (YearPaid figures ∷ earlier) = open_in zone flow earlier
+
+-- the kWh that are billed in a zone by lines
+abbrev pub billed_by : Zone → List Bill → ℕ
+billed_by zone lines = sum (map (λ line. in_zone line.billed zone) lines)
+
+-- the kWh that all issues billed in a zone
+abbrev pub billed : Zone → List Posting → ℕ
+billed zone [] = 0
+billed zone (Opened start holder records ∷ earlier) = billed zone earlier
+billed zone (Entered entry ∷ earlier) = billed zone earlier
+billed zone (Issued lines ∷ earlier) = billed zone earlier + billed_by zone lines
+billed zone (YearPaid figures ∷ earlier) = billed zone earlier
+
+-- the kWh that all year ends paid in a zone
+abbrev pub paid_in : Zone → List Posting → ℕ
+paid_in zone [] = 0
+paid_in zone (Opened start holder records ∷ earlier) = paid_in zone earlier
+paid_in zone (Entered entry ∷ earlier) = paid_in zone earlier
+paid_in zone (Issued lines ∷ earlier) = paid_in zone earlier
+paid_in zone (YearPaid figures ∷ earlier) = paid_in zone earlier + in_zone figures.paid zone
+
+-- what the opening told: the holder's place, and the class of the member at a place
+abbrev pub holder_in : List Posting → ℕ
+holder_in [] = 0
+holder_in (Opened start holder records ∷ earlier) = holder
+holder_in (Entered entry ∷ earlier) = holder_in earlier
+holder_in (Issued lines ∷ earlier) = holder_in earlier
+holder_in (YearPaid figures ∷ earlier) = holder_in earlier
+
+abbrev pub class_at : (place : ℕ) → List Posting → Class
+class_at place [] = Other
+class_at place (Opened start holder records ∷ earlier) = option_map_or class_of (slice_get records place) Other
+class_at place (Entered entry ∷ earlier) = class_at place earlier
+class_at place (Issued lines ∷ earlier) = class_at place earlier
+class_at place (YearPaid figures ∷ earlier) = class_at place earlier
+
+-- the month after the last issue: the start month, and one more for each issue
+abbrev pub month_after : List Posting → ℕ
+month_after [] = 0
+month_after (Opened start holder records ∷ earlier) = start
+month_after (Entered entry ∷ earlier) = month_after earlier
+month_after (Issued lines ∷ earlier) = month_after earlier + 1
+month_after (YearPaid figures ∷ earlier) = month_after earlier
+
+-- what a line charges, in hundredths of a dram: billed kWh at the zone's energy price and covered ones at that of distribution
+abbrev pub charge : (Service → ℕ) → Bill → ℕ
+charge price line =
+    (line.billed.day * price (service.Energy Day) + line.covered.day * price service.Distribution)
+    + (line.billed.night * price (service.Energy Night) + line.covered.night * price service.Distribution)
+
+-- what a year's end credits, in hundredths of a dram: each zone's kWh at its year-end price
+abbrev pub credit : (Service → ℕ) → YearEnd → ℕ
+credit price figures =
+    figures.paid.day * price (service.YearEnd Day) + figures.paid.night * price (service.YearEnd Night)
+
+-- the prices of a month for a class
+abbrev pub priced : (ℕ → Prices) → (month : ℕ) → Class → Service → ℕ
+priced prices month class service' = prices month service' class
+
+-- what the member at a place owes, in hundredths of a dram: what the lines charge at the prices of their month,
+-- less its payments, less, for the holder, what the year ends credit at the prices of the December issued before
+abbrev pub owed : (ℕ → Prices) → (place : ℕ) → List Posting → ℤ
+owed prices place [] = pos 0
+owed prices place (Opened start holder records ∷ earlier) = owed prices place earlier
+owed prices place (Entered (Reading of day value) ∷ earlier) = owed prices place earlier
+owed prices place (Entered (Change of day value start) ∷ earlier) = owed prices place earlier
+owed prices place (Entered (Correction of kwh) ∷ earlier) = owed prices place earlier
+owed prices place (Entered (Payment payer drams) ∷ earlier) =
+    owed prices place earlier -ℤ pos (if payer == place then 100 * drams else 0)
+owed prices place (Issued lines ∷ earlier) =
+    let price = priced prices (month_after earlier) (class_at place earlier) in
+    owed prices place earlier +ℤ pos (option_map_or (charge price) (slice_get lines place) 0)
+owed prices place (YearPaid figures ∷ earlier) =
+    let price = priced prices (month_after earlier - 1) (class_at place earlier) in
+    owed prices place earlier -ℤ pos (if holder_in earlier == place then credit price figures else 0)

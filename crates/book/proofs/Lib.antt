@@ -1,0 +1,3 @@
+mod Paid
+mod Posted
+mod Supplies

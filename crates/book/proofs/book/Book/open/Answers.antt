@@ -1,0 +1,21 @@
+use Rattle.std.proofs.Common.{Ok, arith, rules, sym}
+use Rattle.std.proofs.lemmas.Grind.{common_steps}
+use Rattle.balance.proofs.Theorem.{moved_goes_on, quiet_goes_on}
+use Rattle.balance.specs.Histories.{Opening}
+use Rattle.steps.proofs.OpeningSound.{opening_sound}
+use Rattle.book.proofs.book.Book.open.Goals as goal
+
+pub invariant_of-self : goal.invariant_of-self
+invariant_of-self g c = opening_sound c.args.number c.args.start c.args.holder c.args.records.now _ (sym c.in_ok-self-inside-in-Blank.ensures)
+
+pub returns-in_err-self-inside-in-Blank-clause-balance : goal.returns-in_err-self-inside-in-Blank-clause-balance
+returns-in_err-self-inside-in-Blank-clause-balance g c =
+    quiet_goes_on g.R.SharingRule.sharing g.T.Tariff.price g.met.R.SharingRule.fair c.args.self.now (Opening c.args.number c.args.start c.args.holder c.args.records.now _) (search rules)
+
+pub returns-in_ok-self-inside-in-Blank-clause-balance : goal.returns-in_ok-self-inside-in-Blank-clause-balance
+returns-in_ok-self-inside-in-Blank-clause-balance g c =
+    moved_goes_on g.R.SharingRule.sharing g.T.Tariff.price g.met.R.SharingRule.fair c.args.self.now c.self.inside.rule c.self.inside.tariff c.self.inside.group c.in_ok-self-inside-in-Blank.field-0 (Opening c.args.number c.args.start c.args.holder c.args.records.now (Ok tt)) c.self.view_is (grind (arith, common_steps))
+
+pub returns-in-Open-clause-balance : goal.returns-in-Open-clause-balance
+returns-in-Open-clause-balance g c =
+    quiet_goes_on g.R.SharingRule.sharing g.T.Tariff.price g.met.R.SharingRule.fair c.args.self.now (Opening c.args.number c.args.start c.args.holder c.args.records.now _) (search rules)

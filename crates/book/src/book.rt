@@ -1,0 +1,246 @@
+//! The book, by its calls.
+ghost use Rattle.std.specs.Prelude.{◌≡◌, length};
+ghost use Rattle.balance.specs.Balances.{BeginsBalanced, GoesOnBalanced, drawing_told, issue_told, lines_in};
+ghost use Rattle.balance.specs.Histories.{Opening, Entering, Drawing, Checking, Issuing, Withdrawing, Closing};
+ghost use Rattle.ledger.specs.Zones.{in_zone};
+ghost use Rattle.group.specs.Groups.{blank, member_at};
+ghost use Rattle.group.specs.Results.{Answers, Follows};
+ghost use Rattle.steps.specs.Books.{SameTerms, after_opening};
+ghost use Rattle.steps.specs.Drafts.{after_drawing, after_issue, is_current};
+ghost use Rattle.steps.specs.Entries.{after_entry};
+ghost use Rattle.steps.specs.Years.{closed, previewed};
+
+use crate::draft::Draft;
+use crate::month::{drawable, month_end, post, write};
+use crate::year::{open_year, post_year, year_end};
+use calendar::days::Month;
+use group::group::{Group, Phase};
+use group::member::{Member, OpeningRecord};
+use group::refusal::BookRefusal;
+use ledger::bill::{Bill, YearEnd};
+use ledger::entry::Entry;
+use ledger::zone::Zone;
+use sharing::rule::SharingRule;
+use std::marker::Model;
+use tariff::tariff::Tariff;
+
+/// The settlement book of a group, settled by a sharing rule and a tariff.
+#[derive(Drop)]
+pub struct Book<R, T> {
+    rule: R,
+    tariff: T,
+    group: Group,
+}
+
+impl<R, T> Model for Book<R, T> {
+    ghost use Rattle.steps.specs.Books.{BookState};
+    ghost use Rattle.steps.specs.Sound.{Sound};
+
+    ghost Value = { BookState R T };
+
+    ghost view = { λ book. record { rule = book.rule; tariff = book.tariff; group = book.group } };
+
+    ghost invariant = { λ book. Sound book.group };
+}
+
+impl<R: SharingRule, T: Tariff> Book<R, T> {
+    /// A blank book.
+    pub fn new(rule: R, tariff: T) -> Book<R, T>
+        ensures book { result ≡ record { rule = rule; tariff = tariff; group = blank } }
+        ensures balance { BeginsBalanced R.SharingRule.sharing T.Tariff.price result }
+    {
+        Book {
+            rule,
+            tariff,
+            group: Group::blank(),
+        }
+    }
+
+    /// The balance that a zone carries, in kWh.
+    pub fn carried(&self, zone: Zone) -> u64
+        ensures { result ≡ in_zone self.now.group.carried zone }
+    {
+        self.group.carried.in_zone(zone)
+    }
+
+    /// The record of the member at a place.
+    pub fn member(&self, place: usize) -> Result<Member, BookRefusal>
+        ensures { result ≡ member_at place self.now.group }
+    {
+        self.group
+            .members
+            .get(place)
+            .copied()
+            .ok_or(BookRefusal::Place)
+    }
+
+    /// How many members the group has, which is none before the opening.
+    pub fn members(&self) -> usize
+        ensures { result ≡ length self.now.group.members.items }
+    {
+        self.group.members.len()
+    }
+
+    /// The number of the group, which is 0 before the opening.
+    pub fn number(&self) -> u32
+        ensures { result ≡ self.now.group.number }
+    {
+        self.group.number
+    }
+
+    /// The place of the holder, which is 0 before the opening.
+    pub fn holder(&self) -> usize
+        ensures { result ≡ self.now.group.holder }
+    {
+        self.group.holder
+    }
+
+    /// The phase, with its month.
+    pub fn phase(&self) -> Phase
+        ensures { result ≡ self.now.group.phase }
+    {
+        self.group.phase
+    }
+
+    /// How many entries the open month has, which is none where no month is open.
+    pub fn entries(&self) -> u16
+        ensures { result ≡ self.now.group.entries }
+    {
+        self.group.entries
+    }
+
+    /// The figures that the closing of the year would post, which alters nothing.
+    pub fn year_end(&self) -> Result<YearEnd, BookRefusal>
+        ensures { result ≡ previewed (T.Tariff.price self.now.tariff) self.now.group }
+    {
+        let december = open_year(&self.group)?;
+        let (figures, _) = year_end(&self.tariff, &self.group, december);
+        Ok(figures)
+    }
+
+    /// Opens the book with the members' records.
+    pub fn open(
+        &mut self,
+        number: u32,
+        start: Month,
+        holder: usize,
+        records: &[OpeningRecord],
+    ) -> Result<(), BookRefusal>
+        ensures group { Follows (after_opening number start holder records.now self.old.group)
+            self.old.group result self.new.group }
+        ensures terms { SameTerms self.old self.new }
+        ensures balance { GoesOnBalanced R.SharingRule.sharing T.Tariff.price
+            self.old (Opening number start holder records.now result) self.new }
+    {
+        match self.group.phase {
+            Phase::Blank => {
+                self.group = Group::opened(number, start, holder, records)?;
+                Ok(())
+            }
+            Phase::Open(_) | Phase::YearEnd(_) | Phase::Over => Err(BookRefusal::Opened),
+        }
+    }
+
+    /// Makes an entry in the open month.
+    pub fn enter(&mut self, entry: Entry) -> Result<(), BookRefusal>
+        ensures group { Follows (after_entry entry self.old.group) self.old.group result self.new.group }
+        ensures terms { SameTerms self.old self.new }
+        ensures balance { GoesOnBalanced R.SharingRule.sharing T.Tariff.price
+            self.old (Entering entry result) self.new }
+    {
+        let group = &mut self.group;
+        match (group.phase, entry) {
+            (
+                Phase::Open(month),
+                Entry::Reading {
+                    register,
+                    day,
+                    value,
+                },
+            ) => group.read(register, month, day, value, value),
+            (
+                Phase::Open(month),
+                Entry::Change {
+                    register,
+                    day,
+                    value,
+                    start,
+                },
+            ) => group.read(register, month, day, value, start),
+            (Phase::Open(_), Entry::Correction { register, quantity }) => {
+                group.correct(register, quantity)
+            }
+            (Phase::Open(_), Entry::Payment { place, drams }) => group.pay(place, drams),
+            (Phase::Blank | Phase::YearEnd(_) | Phase::Over, _) => Err(BookRefusal::NoMonth),
+        }
+    }
+
+    /// Writes the lines of the open month into a slice and gives a draft of them, which alters nothing in the book.
+    pub fn draw(&self, lines: &mut [Bill]) -> Result<Draft, BookRefusal>
+        ensures drawing { Answers
+            (after_drawing (R.SharingRule.sharing self.now.rule) (T.Tariff.price self.now.tariff)
+            self.now.group lines.old)
+            lines.old result lines.new }
+        ensures balance { GoesOnBalanced R.SharingRule.sharing T.Tariff.price
+            self.now (Drawing (length lines.old) (drawing_told result (lines_in self.now.group lines.new))) self.now }
+    {
+        let month = drawable(&self.group, lines.len())?;
+        let end = month_end(&self.rule, &self.tariff, &self.group, month);
+        write(&end.lines, lines);
+        Ok(Draft::of(&self.group, month))
+    }
+
+    /// Gives the draft back, with whether it is current.
+    pub fn check(&self, draft: Draft) -> (Draft, bool)
+        ensures answer { result ≡ (draft, is_current self.now.group draft) }
+        ensures balance { GoesOnBalanced R.SharingRule.sharing T.Tariff.price
+            self.now (Checking draft result.1) self.now }
+    {
+        let current = draft.is_current(&self.group);
+        (draft, current)
+    }
+
+    /// Takes the draft, posts the month's figures, writes the lines of a drawing made now into a slice, and opens what follows.
+    pub fn issue(&mut self, draft: Draft, lines: &mut [Bill]) -> Result<(), BookRefusal>
+        ensures group { Follows
+            (after_issue (R.SharingRule.sharing self.old.rule) (T.Tariff.price self.old.tariff) draft
+            (self.old.group, lines.old))
+            (self.old.group, lines.old) result (self.new.group, lines.new) }
+        ensures terms { SameTerms self.old self.new }
+        ensures balance { GoesOnBalanced R.SharingRule.sharing T.Tariff.price
+            self.old (Issuing draft (length lines.old) (issue_told result (lines_in self.old.group lines.new))) self.new }
+    {
+        let current = draft.is_current(&self.group);
+        draft.end();
+        let month = drawable(&self.group, lines.len())?;
+        if !current {
+            return Err(BookRefusal::Draft);
+        }
+        let end = month_end(&self.rule, &self.tariff, &self.group, month);
+        write(&end.lines, lines);
+        post(&mut self.group, end, month);
+        Ok(())
+    }
+
+    /// Takes the draft, which alters nothing.
+    pub fn withdraw(&self, draft: Draft)
+        ensures balance { GoesOnBalanced R.SharingRule.sharing T.Tariff.price
+            self.now (Withdrawing draft) self.now }
+    {
+        draft.end();
+    }
+
+    /// Closes the year: pays what each zone carries to the holder, and opens January.
+    pub fn close_year(&mut self) -> Result<YearEnd, BookRefusal>
+        ensures group { Answers (closed (T.Tariff.price self.old.tariff) self.old.group)
+            self.old.group result self.new.group }
+        ensures terms { SameTerms self.old self.new }
+        ensures balance { GoesOnBalanced R.SharingRule.sharing T.Tariff.price
+            self.old (Closing result) self.new }
+    {
+        let december = open_year(&self.group)?;
+        let (figures, holder) = year_end(&self.tariff, &self.group, december);
+        post_year(&mut self.group, holder, december);
+        Ok(figures)
+    }
+}

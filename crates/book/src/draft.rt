@@ -1,0 +1,60 @@
+//! Drafts of a month's bills.
+ghost use Rattle.std.specs.Prelude.{◌≡◌};
+ghost use Rattle.steps.specs.Drafts.{is_current, stamped};
+
+use calendar::days::Month;
+use group::group::{Group, Phase};
+use std::marker::Model;
+
+/// A draft of a month's bills. It can be neither copied nor dropped: only drawing makes one, and it ends in an issue or a withdrawal.
+pub struct Draft {
+    // The number of the group that it was drawn of.
+    number: u32,
+    // The month that was open then.
+    month: Month,
+    // How many entries the month had.
+    entries: u16,
+}
+
+impl Model for Draft {
+    ghost use Rattle.steps.specs.Drafts.{Stamp};
+
+    ghost Value = { Stamp };
+
+    ghost view = { λ draft.
+        record { number = draft.number; month = draft.month; entries = draft.entries } };
+}
+
+impl Draft {
+    // A draft of the group as it stands in a month.
+    pub(crate) fn of(group: &Group, month: Month) -> Draft
+        ensures { result ≡ stamped month group.now }
+    {
+        Draft {
+            number: group.number,
+            month,
+            entries: group.entries,
+        }
+    }
+
+    // Whether the draft is current.
+    pub(crate) fn is_current(&self, group: &Group) -> bool
+        ensures { result ≡ is_current group.now self.now }
+    {
+        match group.phase {
+            Phase::Open(month) => {
+                self.number == group.number && self.month == month && self.entries == group.entries
+            }
+            Phase::Blank | Phase::YearEnd(_) | Phase::Over => false,
+        }
+    }
+
+    // Lets the draft go.
+    pub(crate) fn end(self) {
+        let Draft {
+            number: _,
+            month: _,
+            entries: _,
+        } = self;
+    }
+}

@@ -1,0 +1,8 @@
+//! The settlement book of a group.
+#![tactic(auto)]
+
+pub mod book;
+pub mod draft;
+mod month;
+mod posting;
+mod year;

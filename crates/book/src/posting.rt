@@ -1,0 +1,29 @@
+//! Amounts that are posted to members' accounts.
+ghost use Rattle.std.specs.Prelude.{◌≡◌, ◌<◌, ◌≤◌, Some, length, nat_abs, slice_get};
+ghost use Rattle.billing.specs.Accounts.{drams_of};
+ghost use Rattle.steps.specs.Months.{posted};
+ghost use Rattle.steps.specs.Sound.{Postable};
+
+use billing::account::{Account, Posting, post};
+use group::member::Member;
+
+// The record at a place. The one of a `for` over the slice has no such plain name in a proof.
+pub(crate) fn member_at(members: &[Member], place: usize) -> Member
+    requires { place < length members.now }
+    ensures { slice_get members.now place ≡ Some result }
+{
+    members[place]
+}
+
+// An account after an amount in hundredths of a dram, and the drams that were added to its debt.
+pub(crate) fn posted(account: Account, amount: i64) -> Posting
+    requires account { Postable account }
+    requires amount { nat_abs amount ≤ 200000000000000 }
+    ensures drams { result.drams ≡ drams_of account amount }
+    ensures account { result.account ≡ posted account amount }
+{
+    let Some(posting) = post(account, amount) else {
+        unreachable!()
+    };
+    posting
+}

@@ -1,0 +1,2 @@
+mod Quantities
+pub mod Stepping

@@ -1,0 +1,211 @@
+//! A group, its opening, and its entries, each of which changes one record.
+ghost use Rattle.std.specs.Prelude.{◌≡◌, ◌<◌, ◌≤◌, length};
+ghost use Rattle.group.specs.Groups.{admitted, altered, blank, capacities_fit, entered, is_producer, members_of, opened, opening, some_over};
+ghost use Rattle.group.specs.Members.{on_account, on_register};
+ghost use Rattle.group.specs.Payments.{paid};
+ghost use Rattle.group.specs.Registers.{corrected, read};
+ghost use Rattle.group.specs.Results.{Follows};
+
+use crate::member::{Member, OpeningRecord};
+use crate::refusal::BookRefusal;
+use arrayvec::ArrayVec;
+use calendar::days::{Day, LAST_MONTH, Month};
+use ledger::entry::MemberRegister;
+use ledger::zone::ByZone;
+use sharing::rule::PLACES;
+
+/// The largest capacity of a member, in kW.
+pub const MOST_CAPACITY: u32 = 150;
+/// The largest sum of the members' capacities, in kW.
+pub const MOST_CAPACITIES: u32 = 1_050;
+/// The most entries of a month.
+pub const MOST_ENTRIES: u16 = 1_000;
+
+/// The phase of a group.
+#[derive(Clone, Copy, PartialEq, Eq, Debug)]
+pub enum Phase {
+    /// The group was never opened.
+    Blank,
+    /// A month is open.
+    Open(Month),
+    /// A December was issued, and its year is not closed yet.
+    YearEnd(Month),
+    /// The last year is closed.
+    Over,
+}
+
+/// A group.
+#[derive(Drop)]
+pub struct Group {
+    /// The number of the group.
+    pub number: u32,
+    /// The place of the holder.
+    pub holder: usize,
+    /// The records of the members, in order of place.
+    pub members: ArrayVec<Member, PLACES>,
+    /// The carried balances in kWh.
+    pub carried: ByZone<u64>,
+    /// The phase.
+    pub phase: Phase,
+    /// How many entries the open month has.
+    pub entries: u16,
+}
+
+impl Group {
+    /// The group that was never opened.
+    pub fn blank() -> Group
+        ensures { result ≡ blank }
+    {
+        Group {
+            number: 0,
+            holder: 0,
+            members: ArrayVec::new(),
+            carried: ByZone { day: 0, night: 0 },
+            phase: Phase::Blank,
+            entries: 0,
+        }
+    }
+
+    /// A group as it opens.
+    pub fn opened(
+        number: u32,
+        start: Month,
+        holder: usize,
+        records: &[OpeningRecord],
+    ) -> Result<Group, BookRefusal>
+        ensures { result ≡ opened number start holder records.now }
+    {
+        opening(start, holder, records)?;
+        Ok(Group {
+            number,
+            holder,
+            members: members_of(records),
+            phase: Phase::Open(start),
+            ..Group::blank()
+        })
+    }
+
+    /// Enters what is read of a register.
+    pub fn read(
+        &mut self,
+        at: MemberRegister,
+        month: Month,
+        day: Day,
+        value: u32,
+        next: u32,
+    ) -> Result<(), BookRefusal>
+        ensures { Follows (altered at.place (on_register at (read month day value next)) self.old)
+            self.old result self.new }
+    {
+        let mut member = self.admit(at.place)?;
+        member.read(at, month, day, value, next)?;
+        self.enter(at.place, member);
+        Ok(())
+    }
+
+    /// Enters a correction of a register's tally.
+    pub fn correct(&mut self, at: MemberRegister, kwh: i32) -> Result<(), BookRefusal>
+        ensures { Follows (altered at.place (on_register at (corrected kwh)) self.old) self.old result self.new }
+    {
+        let mut member = self.admit(at.place)?;
+        member.correct(at, kwh)?;
+        self.enter(at.place, member);
+        Ok(())
+    }
+
+    /// Enters a payment in drams by the member at a place.
+    pub fn pay(&mut self, place: usize, drams: u32) -> Result<(), BookRefusal>
+        ensures { Follows (altered place (on_account (paid drams)) self.old) self.old result self.new }
+    {
+        let mut member = self.admit(place)?;
+        member.pay(drams)?;
+        self.enter(place, member);
+        Ok(())
+    }
+
+    // The record that an entry is for, where the month has room for one.
+    fn admit(&self, place: usize) -> Result<Member, BookRefusal>
+        ensures { result ≡ admitted place self.now }
+    {
+        let member = self.members.get(place).ok_or(BookRefusal::Place)?;
+        if self.entries >= MOST_ENTRIES {
+            return Err(BookRefusal::Full);
+        }
+        Ok(*member)
+    }
+
+    // Replaces the record at a place by what an entry made of it; every other record stays.
+    fn enter(&mut self, place: usize, member: Member)
+        requires place { place < length self.old.members.items }
+        requires room { self.old.entries < 1000 }
+        ensures { self.new ≡ entered place member self.old }
+    {
+        self.members[place] = member;
+        self.entries += 1;
+    }
+}
+
+// Whether a group may open so.
+fn opening(start: Month, holder: usize, records: &[OpeningRecord]) -> Result<(), BookRefusal>
+    ensures { result ≡ opening start holder records.now }
+{
+    if records.is_empty() || records.len() > PLACES {
+        return Err(BookRefusal::Count);
+    }
+    if start > LAST_MONTH {
+        return Err(BookRefusal::Start);
+    }
+    if !capacities_fit(records) {
+        return Err(BookRefusal::Capacity);
+    }
+    if !is_producer(holder, records) {
+        return Err(BookRefusal::Holder);
+    }
+    if some_over(records) {
+        return Err(BookRefusal::Register);
+    }
+    Ok(())
+}
+
+// Whether each capacity and their sum are within their limits.
+fn capacities_fit(records: &[OpeningRecord]) -> bool
+    requires { length records.now ≤ 32 }
+    ensures { result ≡ capacities_fit records.now }
+{
+    let mut sum = 0;
+    for record in records {
+        if record.capacity() > MOST_CAPACITY {
+            return false;
+        }
+        sum += record.capacity();
+    }
+    sum <= MOST_CAPACITIES
+}
+
+// Whether the place has a record with capacity above 0.
+fn is_producer(place: usize, records: &[OpeningRecord]) -> bool
+    ensures { result ≡ is_producer place records.now }
+{
+    records
+        .get(place)
+        .is_some_and(|record| record.capacity() > 0)
+}
+
+// Whether a register opens over its largest value.
+fn some_over(records: &[OpeningRecord]) -> bool
+    ensures { result ≡ some_over records.now }
+{
+    records.iter().any(|record| record.is_over())
+}
+
+// The records of the members as a group opens.
+fn members_of(records: &[OpeningRecord]) -> ArrayVec<Member, PLACES>
+    requires { length records.now ≤ 32 }
+    ensures { result.items ≡ members_of records.now }
+{
+    let mut members = ArrayVec::new();
+    for record in records {
+        members.push(Member::opened(*record));
+    }
+    members
+}

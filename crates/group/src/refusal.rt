@@ -1,0 +1,69 @@
+//! Why a call on the book is turned away.
+ghost use Rattle.std.specs.Prelude.{◌≡◌};
+ghost use Rattle.group.specs.Refusals.{number_of};
+
+/// The refusals of the book's calls.
+#[derive(Clone, Copy, PartialEq, Eq, Debug)]
+pub enum BookRefusal {
+    /// The book was opened before.
+    Opened,
+    /// There are not 1 to 32 records.
+    Count,
+    /// The start month is over 1199.
+    Start,
+    /// A capacity is over 150 kW, or their sum over 1,050 kW.
+    Capacity,
+    /// The holder's place has no record with capacity above 0.
+    Holder,
+    /// An opening register is over 9,999,999 kWh.
+    Register,
+    /// No month is open.
+    NoMonth,
+    /// There is no year end.
+    NoYearEnd,
+    /// The place has no record.
+    Place,
+    /// The month has 1,000 entries.
+    Full,
+    /// The day lies outside the open month.
+    Day,
+    /// A register value is over 9,999,999 kWh, a correction beyond 1,000,000 kWh either way, or a payment not 1 to 100,000,000 drams.
+    Value,
+    /// A reading or a final value is below the register.
+    Below,
+    /// The tally would leave its range.
+    Tally,
+    /// A payment would leave a debt below -1,000,000,000 drams.
+    Debt,
+    /// The slice for lines is shorter than the group.
+    Lines,
+    /// The draft is not current.
+    Draft,
+}
+
+impl BookRefusal {
+    /// The refusal's number.
+    pub fn number(self) -> u8
+        ensures { result ≡ number_of self }
+    {
+        match self {
+            BookRefusal::Opened => 1,
+            BookRefusal::Count => 2,
+            BookRefusal::Start => 3,
+            BookRefusal::Capacity => 4,
+            BookRefusal::Holder => 5,
+            BookRefusal::Register => 6,
+            BookRefusal::NoMonth => 11,
+            BookRefusal::NoYearEnd => 12,
+            BookRefusal::Place => 13,
+            BookRefusal::Full => 14,
+            BookRefusal::Day => 15,
+            BookRefusal::Value => 16,
+            BookRefusal::Below => 17,
+            BookRefusal::Tally => 18,
+            BookRefusal::Debt => 19,
+            BookRefusal::Lines => 20,
+            BookRefusal::Draft => 21,
+        }
+    }
+}

@@ -1,0 +1,146 @@
+-- No entry leaves the ranges of a group's figures.
+use Rattle.std.proofs.Common.{Err, length-set, Some, slice_get, nat_lt, if◌then◌else◌, ap, ◌∙◌, ◌≡◌, ℕ, ◌≤◌, Ok, Result, ℤ, nat_abs, arith, subst, sym}
+use Rattle.std.proofs.lemmas.Bool.Decides.{nat_tests}
+use Rattle.std.proofs.lemmas.Grind.{common_steps}
+use Rattle.std.proofs.lemmas.Int.{ints}
+use Rattle.billing.specs.declared.account.Account.{Account}
+use Rattle.ledger.specs.declared.entry.Entry.{Entry}
+use Rattle.ledger.specs.declared.entry.Entry.TheVariants.{Reading, Change, Correction, Payment}
+use Rattle.ledger.specs.declared.entry.MemberRegister.{MemberRegister}
+use Rattle.ledger.specs.declared.zone.ByFlow.{ByFlow}
+use Rattle.ledger.specs.declared.zone.Flow.{Flow}
+use Rattle.ledger.specs.declared.zone.Flow.TheVariants.{Consumed, Delivered}
+use Rattle.ledger.specs.declared.zone.Zone.{Zone}
+use Rattle.ledger.specs.declared.zone.Zone.TheVariants.{Day, Night}
+use Rattle.group.proofs.Stepping.{and_then_ok, made_ok, ok_or_ok}
+use Rattle.group.specs.Results.{Follows, made}
+use Rattle.group.specs.declared.group.Phase.{Phase}
+use Rattle.group.specs.declared.group.Phase.TheVariants.{Blank, Open, YearEnd, Over}
+use Rattle.std.proofs.lemmas.List.Elements.{All-set}
+use Rattle.std.specs.Option.{ok_or}
+use Rattle.group.specs.Groups.{admitted, altered, entered}
+use Rattle.group.specs.declared.group.Group.{Group}
+use Rattle.group.specs.declared.refusal.BookRefusal.TheVariants as refused
+use Rattle.group.specs.Members.{on_account, on_register, register_at, with_register}
+use Rattle.group.specs.Payments.{paid}
+use Rattle.group.specs.Registers.{corrected, read}
+use Rattle.group.specs.declared.member.Member.{Member}
+use Rattle.group.specs.declared.refusal.BookRefusal.{BookRefusal}
+use Rattle.group.specs.declared.register.Register.{Register}
+use Rattle.steps.proofs.Lists.{found_all}
+use Rattle.steps.specs.Entries.{after_entry, open_month, place_of, recorded}
+use Rattle.steps.specs.Sound.{Sound, SoundFlows, SoundMember, SoundPhase, SoundRegister, most_owed}
+
+-- what is read of a register is of seven digits, and its tally in range
+read_sound : (month day value next : ℕ) (register after : Register) → read month day value next register ≡ Ok after → SoundRegister after
+read_sound month day value next register after is =
+    let standing : after.standing ≤ 9999999 = grind (arith, nat_tests, common_steps) in
+    let tally : nat_abs after.tally ≤ 1000000 = grind (arith, nat_tests, common_steps) in
+    record { standing = standing; tally = tally }
+
+-- so is it after a correction
+corrected_sound : (kwh : ℤ) (register after : Register) → SoundRegister register → corrected kwh register ≡ Ok after → SoundRegister after
+corrected_sound kwh register after sound is =
+    let standing : after.standing ≤ 9999999 = grind (arith, nat_tests, common_steps) in
+    let tally : nat_abs after.tally ≤ 1000000 = grind (arith, nat_tests, common_steps) in
+    record { standing = standing; tally = tally }
+
+register_sound : (zone : Zone) (flow : Flow) (place owed : ℕ) (member : Member) → SoundMember owed member → SoundRegister (register_at (record { place = place; zone = zone; flow = flow }) member)
+register_sound Day Consumed place owed member sound = sound.day.consumed
+register_sound Day Delivered place owed member sound = sound.day.delivered
+register_sound Night Consumed place owed member sound = sound.night.consumed
+register_sound Night Delivered place owed member sound = sound.night.delivered
+
+-- a record is sound with any sound registers
+zones_sound : {day night : ByFlow Register} {owed : ℕ} {member : Member} → SoundFlows day → SoundFlows night → SoundMember owed member → SoundMember owed (record member { registers = record { day = day; night = night } })
+zones_sound d n m = record { day = d; night = n; fraction = m.fraction; debt = m.debt }
+
+-- a record stays sound where one register is replaced by a sound one
+replaced_sound : (zone : Zone) (flow : Flow) (place owed : ℕ) (register : Register) (member : Member) → SoundRegister register → SoundMember owed member → SoundMember owed (with_register (record { place = place; zone = zone; flow = flow }) register member)
+replaced_sound Day Consumed place owed register member r m = zones_sound (record { consumed = r; delivered = m.day.delivered }) m.night m
+replaced_sound Day Delivered place owed register member r m = zones_sound (record { consumed = m.day.consumed; delivered = r }) m.night m
+replaced_sound Night Consumed place owed register member r m = zones_sound m.day (record { consumed = r; delivered = m.night.delivered }) m
+replaced_sound Night Delivered place owed register member r m = zones_sound m.day (record { consumed = m.night.consumed; delivered = r }) m
+
+on_register_sound : (at : MemberRegister) (step : Register → Result Register BookRefusal) → ((register after : Register) → SoundRegister register → step register ≡ Ok after → SoundRegister after) → (owed : ℕ) (member after : Member) → SoundMember owed member → on_register at step member ≡ Ok after → SoundMember owed after
+on_register_sound at step keeps owed member after sound is =
+    let own = register_at at member in
+    let (register, stepped, same) = made_ok (λ (r : Register). with_register at r member) (step own) after is in
+    let kept : SoundRegister register = keeps own register (register_sound at.zone at.flow at.place owed member sound) stepped in
+    let P : Member → Type 0 = λ m. SoundMember owed m in
+    subst P same (replaced_sound at.zone at.flow at.place owed register member kept sound)
+
+paid_owed : (drams owed : ℕ) (account after : Account) → 1000000000 ≤ owed → nat_abs account.debt ≤ owed → paid drams account ≡ Ok after → nat_abs after.debt ≤ owed
+paid_owed drams owed account after enough within is = grind (arith, ints, nat_tests, common_steps)
+
+paid_fraction : (drams : ℕ) (account after : Account) → paid drams account ≡ Ok after → after.fraction ≡ account.fraction
+paid_fraction drams account after is = grind (arith, nat_tests, common_steps)
+
+paid_sound : (drams owed : ℕ) (member after : Member) → 1000000000 ≤ owed → SoundMember owed member → on_account (paid drams) member ≡ Ok after → SoundMember owed after
+paid_sound drams owed member after enough sound is =
+    let (account, stepped, same) = made_ok (λ (account : Account). record member { account = account }) (paid drams member.account) after is in
+    let P : Member → Type 0 = λ m. SoundMember owed m in
+    let kept = paid_fraction drams member.account account stepped in
+    subst P same (record {
+      day = sound.day;
+      night = sound.night;
+      fraction = omega (arith, kept, sound.fraction);
+      debt = paid_owed drams owed member.account account enough sound.debt stepped;
+    })
+
+-- no entry leaves the ranges of the record that it is for
+recorded_sound : (month : ℕ) (entry : Entry) (owed : ℕ) (member after : Member) → 1000000000 ≤ owed → SoundMember owed member → recorded month entry member ≡ Ok after → SoundMember owed after
+recorded_sound month (Reading at day value) owed member after enough sound is = on_register_sound at (read month day value value) (λ register read_register _ told. read_sound month day value value register read_register told) owed member after sound is
+recorded_sound month (Change at day value start) owed member after enough sound is = on_register_sound at (read month day value start) (λ register read_register _ told. read_sound month day value start register read_register told) owed member after sound is
+recorded_sound month (Correction at kwh) owed member after enough sound is = on_register_sound at (corrected kwh) (corrected_sound kwh) owed member after sound is
+recorded_sound month (Payment place drams) owed member after enough sound is = paid_sound drams owed member after enough sound is
+
+-- in an open month what may be owed is at least what a payment may leave
+owed_enough : (phase : Phase) (month : ℕ) → open_month phase ≡ Ok month → 1000000000 ≤ most_owed phase
+owed_enough Blank month is = absurd cc
+owed_enough (Open m) month is = omega arith
+owed_enough (YearEnd d) month is = absurd cc
+owed_enough Over month is = absurd cc
+
+-- what an admitted entry is for is a record of the group
+pub admitted_at : (place : ℕ) (group : Group) (member : Member) → admitted place group ≡ Ok member → slice_get group.members.items place ≡ Some member
+admitted_at place group member is =
+    let (found, told, rest) = and_then_ok (ok_or (slice_get group.members.items place) refused.Place) (λ found. if nat_lt group.entries 1000 then Ok found else Err refused.Full) member is in
+    let same : found ≡ member = grind (arith, nat_tests) in
+    ok_or_ok (slice_get group.members.items place) refused.Place found told ∙ ap (λ (m : Member). Some m) same
+
+-- no entry leaves the ranges of a group's figures
+altered_sound : (place : ℕ) (step : Member → Result Member BookRefusal) (group after : Group) → ((member changed : Member) → SoundMember (most_owed group.phase) member → step member ≡ Ok changed → SoundMember (most_owed group.phase) changed) → Sound group → altered place step group ≡ Ok after → Sound after
+altered_sound place step group after keeps sound is =
+    let (member, found, rest) = and_then_ok (admitted place group) (λ (m : Member). made (λ (a : Member). entered place a group) (step m)) after is in
+    let (changed, stepped, same) = made_ok (λ (a : Member). entered place a group) (step member) after rest in
+    let P : Member → Type 0 = λ m. SoundMember (most_owed group.phase) m in
+    let was : SoundMember (most_owed group.phase) member = found_all P group.members.items place member sound.each (admitted_at place group member found) in
+    let kept : SoundMember (most_owed group.phase) changed = keeps member changed was stepped in
+    let as_many = length-set group.members.items place changed in
+    let Q : Group → Type 0 = λ g. Sound g in
+    let R : ℕ → Type 0 = λ n. SoundPhase group.phase group.holder n in
+    subst Q same (record {
+      few = omega (arith, as_many, sound.few);
+      each = All-set P group.members.items place changed kept sound.each;
+      carried = sound.carried;
+      phase = subst R (sym as_many) sound.phase;
+    })
+
+pub entry_sound : (entry : Entry) (group after : Group) → Sound group → after_entry entry group ≡ Ok after → Sound after
+entry_sound entry group after sound is =
+    let (month, opened, rest) = and_then_ok (open_month group.phase) (λ (m : ℕ). altered (place_of entry) (recorded m entry) group) after is in
+    let enough : 1000000000 ≤ most_owed group.phase = owed_enough group.phase month opened in
+    altered_sound (place_of entry) (recorded month entry) group after (λ member changed was stepped. recorded_sound month entry (most_owed group.phase) member changed enough was stepped) sound rest
+
+-- a call that follows a step which leaves a sound group leaves one
+pub follows_sound : (step : Result Group BookRefusal) (old new : Group) (r : Result (Unit {0}) BookRefusal) → Sound old → ((after : Group) → step ≡ Ok after → Sound after) → Follows step old r new → Sound new
+follows_sound step old new (Ok done) sound keeps follows = keeps new follows
+follows_sound step old new (Err refusal) sound keeps follows = let P : Group → Type 0 = λ g. Sound g in subst P (sym follows.1) sound
+
+-- so does the part of an entry's step that is for an open month
+pub recorded_follows : (entry : Entry) (month : ℕ) (old new : Group) (r : Result (Unit {0}) BookRefusal) → old.phase ≡ Open month → Sound old → Follows (altered (place_of entry) (recorded month entry) old) old r new → Sound new
+recorded_follows entry month old new r is sound follows =
+    follows_sound (altered (place_of entry) (recorded month entry) old) old new r sound (λ after goes.
+    altered_sound (place_of entry) (recorded month entry) old after (λ member changed was stepped.
+    recorded_sound month entry (most_owed old.phase) member changed (owed_enough old.phase month (ap open_month is)) was stepped) sound goes) follows

@@ -1,0 +1,33 @@
+-- What contracts see of a book: a group, with the rule and the tariff that it is settled by.
+use Rattle.std.specs.Prelude.{◌≡◌, ℕ, List, Ok, Err, Result}
+use Rattle.group.specs.Groups.{opened}
+use Rattle.group.specs.Results.{and_then}
+use Rattle.group.specs.declared.group.Group.{Group}
+use Rattle.group.specs.declared.group.Phase.{Phase}
+use Rattle.group.specs.declared.group.Phase.TheVariants.{Blank, Open, YearEnd, Over}
+use Rattle.group.specs.declared.member.OpeningRecord.{OpeningRecord}
+use Rattle.group.specs.declared.refusal.BookRefusal.{BookRefusal}
+use Rattle.group.specs.declared.refusal.BookRefusal.TheVariants.{Opened}
+
+-- a group that is settled by a rule and a tariff
+pub record BookState (R T : Type 0) : Type 0 where
+  pub rule : R
+  pub tariff : T
+  pub group : Group
+
+-- the rule and the tariff stay
+pub record SameTerms {R T : Type 0} (old new : BookState R T) : Type 0 where
+  pub rule : new.rule ≡ old.rule
+  pub tariff : new.tariff ≡ old.tariff
+
+-- whether a group was never opened
+abbrev pub unopened : Phase → Result (Unit {0}) BookRefusal
+unopened Blank = Ok tt
+unopened (Open month) = Err Opened
+unopened (YearEnd december) = Err Opened
+unopened Over = Err Opened
+
+-- the group after an opening
+abbrev pub after_opening : (number start holder : ℕ) → List OpeningRecord → Group → Result Group BookRefusal
+after_opening number start holder records group =
+    and_then (unopened group.phase) (λ done. opened number start holder records)

@@ -1,0 +1,79 @@
+-- A draft, when it is current, and what drawing and issuing make of a group.
+use Rattle.std.specs.Prelude.{ℕ, ◌+◌, ◌%◌, Bool, false, ◌&&◌, if◌then◌else◌, List, ◌++◌, length, drop, ◌==◌, nat_lt, Ok, Err, Result}
+use Rattle.ledger.specs.declared.bill.Bill.{Bill}
+use Rattle.group.specs.Results.{and_then, made}
+use Rattle.group.specs.declared.group.Group.{Group}
+use Rattle.group.specs.declared.group.Phase.{Phase}
+use Rattle.group.specs.declared.group.Phase.TheVariants.{Blank, Open, YearEnd, Over}
+use Rattle.group.specs.declared.refusal.BookRefusal.{BookRefusal}
+use Rattle.group.specs.declared.refusal.BookRefusal.TheVariants as refused
+use Rattle.steps.specs.Entries.{open_month}
+use Rattle.steps.specs.Months.{Prices, Share, billed_members, carried_in, each_zone, lines_of}
+
+-- the three numbers of a draft: those of the group and the month that it was drawn of, and how many entries the month had
+pub record Stamp : Type 0 where
+  pub number : ℕ
+  pub month : ℕ
+  pub entries : ℕ
+
+-- a draft of the group as it stands in a month
+abbrev pub stamped : (month : ℕ) → Group → Stamp
+stamped month group = record { number = group.number; month = month; entries = group.entries }
+
+-- the three numbers are those of a draft of now
+abbrev pub agrees : Phase → Group → Stamp → Bool
+agrees Blank group stamp = false
+agrees (Open month) group stamp =
+    stamp.number == group.number && (stamp.month == month && stamp.entries == group.entries)
+agrees (YearEnd december) group stamp = false
+agrees Over group stamp = false
+
+-- whether a draft is current, which none is but in an open month
+abbrev pub is_current : Group → Stamp → Bool
+is_current group stamp = agrees group.phase group stamp
+
+-- the month that is open, where a slice of so many places has room for the lines of the group
+abbrev pub drawable : (places : ℕ) → Group → Result ℕ BookRefusal
+drawable places group =
+    and_then (open_month group.phase) (λ month.
+    if nat_lt places (length group.members.items) then Err refused.Lines else Ok month)
+
+-- a draft, and the lines of a drawing
+abbrev pub drawn : Share → (ℕ → Prices) → (places : ℕ) → Group → Result (Stamp × List Bill) BookRefusal
+drawn share prices places group =
+    made (λ month. (stamped month group, lines_of share (prices month) group)) (drawable places group)
+
+-- the phase after a month is issued: after December the year end follows, else the next month opens
+abbrev pub next_phase : (month : ℕ) → Phase
+next_phase month = if month % 12 == 11 then YearEnd month else Open (month + 1)
+
+-- the group after a month is issued
+abbrev pub after_month : Share → (ℕ → Prices) → (month : ℕ) → Group → Group
+after_month share prices month group = record group {
+  members = record { items = billed_members share (prices month) group };
+  carried = each_zone (λ zone. carried_in share zone group);
+  phase = next_phase month;
+  entries = 0;
+}
+
+-- the lines of an issue, and the group after it
+abbrev pub issued : Share → (ℕ → Prices) → Stamp → (places : ℕ) → Group → Result (List Bill × Group) BookRefusal
+issued share prices stamp places group =
+    and_then (drawable places group) (λ month.
+    if is_current group stamp
+    then Ok (lines_of share (prices month) group, after_month share prices month group)
+    else Err refused.Draft)
+
+-- a slice after lines are written over its front
+abbrev pub overwritten : List Bill → List Bill → List Bill
+overwritten lines slice = lines ++ drop (length lines) slice
+
+-- a draft, and the slice after a drawing
+abbrev pub after_drawing : Share → (ℕ → Prices) → Group → List Bill → Result (Stamp × List Bill) BookRefusal
+after_drawing share prices group slice =
+    made (λ drawing. (drawing.0, overwritten drawing.1 slice)) (drawn share prices (length slice) group)
+
+-- the group and the slice after an issue
+abbrev pub after_issue : Share → (ℕ → Prices) → Stamp → Group × List Bill → Result (Group × List Bill) BookRefusal
+after_issue share prices stamp (group, slice) =
+    made (λ issue. (issue.1, overwritten issue.0 slice)) (issued share prices stamp (length slice) group)

@@ -1,0 +1,41 @@
+-- What an entry makes of a group, or why it is refused.
+use Rattle.std.specs.Prelude.{ℕ, Ok, Err, Result}
+use Rattle.ledger.specs.declared.entry.Entry.{Entry}
+use Rattle.ledger.specs.declared.entry.Entry.TheVariants.{Reading, Change, Correction, Payment}
+use Rattle.group.specs.Groups.{altered}
+use Rattle.group.specs.Members.{on_account, on_register}
+use Rattle.group.specs.Payments.{paid}
+use Rattle.group.specs.Registers.{corrected, read}
+use Rattle.group.specs.Results.{and_then}
+use Rattle.group.specs.declared.group.Group.{Group}
+use Rattle.group.specs.declared.group.Phase.{Phase}
+use Rattle.group.specs.declared.group.Phase.TheVariants.{Blank, Open, YearEnd, Over}
+use Rattle.group.specs.declared.member.Member.{Member}
+use Rattle.group.specs.declared.refusal.BookRefusal.{BookRefusal}
+use Rattle.group.specs.declared.refusal.BookRefusal.TheVariants.{NoMonth}
+
+-- the month that is open
+abbrev pub open_month : Phase → Result ℕ BookRefusal
+open_month Blank = Err NoMonth
+open_month (Open month) = Ok month
+open_month (YearEnd december) = Err NoMonth
+open_month Over = Err NoMonth
+
+-- the place that an entry is for
+abbrev pub place_of : Entry → ℕ
+place_of (Reading at day value) = at.place
+place_of (Change at day value start) = at.place
+place_of (Correction at kwh) = at.place
+place_of (Payment place drams) = place
+
+-- what an entry of an open month makes of the record that it is for: a reading counts on from its value, and a change from the start value
+abbrev pub recorded : (month : ℕ) → Entry → Member → Result Member BookRefusal
+recorded month (Reading at day value) = on_register at (read month day value value)
+recorded month (Change at day value start) = on_register at (read month day value start)
+recorded month (Correction at kwh) = on_register at (corrected kwh)
+recorded month (Payment place drams) = on_account (paid drams)
+
+-- what an entry makes of a group
+abbrev pub after_entry : Entry → Group → Result Group BookRefusal
+after_entry entry group =
+    and_then (open_month group.phase) (λ month. altered (place_of entry) (recorded month entry) group)

@@ -1,0 +1,70 @@
+-- What holds of the group in every book: the ranges of its figures, so that no call leaves what numbers can hold.
+use Rattle.std.specs.Prelude.{◌≡◌, ℕ, ◌+◌, ◌*◌, ◌%◌, ◌<◌, ◌≤◌, All, length, nat_abs}
+use Rattle.ledger.specs.Zones.{in_zone}
+use Rattle.ledger.specs.declared.zone.ByFlow.{ByFlow}
+use Rattle.billing.specs.declared.account.Account.{Account}
+use Rattle.billing.specs.declared.supply.Supply.{Supply}
+use Rattle.ledger.specs.declared.zone.ByZone.{ByZone}
+use Rattle.ledger.specs.declared.zone.Zone.{Zone}
+use Rattle.group.specs.declared.group.Group.{Group}
+use Rattle.group.specs.declared.group.Phase.{Phase}
+use Rattle.group.specs.declared.group.Phase.TheVariants.{Blank, Open, YearEnd, Over}
+use Rattle.group.specs.declared.member.Member.{Member}
+use Rattle.group.specs.declared.register.Register.{Register}
+
+-- a register of seven digits, and a tally of up to 1,000,000 kWh either way
+pub record SoundRegister (register : Register) : Type 0 where
+  pub standing : register.standing ≤ 9999999
+  pub tally : nat_abs register.tally ≤ 1000000
+
+-- both registers of a zone
+pub record SoundFlows (flows : ByFlow Register) : Type 0 where
+  pub consumed : SoundRegister flows.consumed
+  pub delivered : SoundRegister flows.delivered
+
+-- a record whose registers and fraction are in their ranges, and whose debt is at most so many drams either way
+pub record SoundMember (owed : ℕ) (member : Member) : Type 0 where
+  pub day : SoundFlows member.registers.day
+  pub night : SoundFlows member.registers.night
+  pub fraction : member.account.fraction < 100
+  pub debt : nat_abs member.account.debt ≤ owed
+
+-- the most that a member owes or is owed in a phase: a payment leaves a debt of -1,000,000,000 drams at the lowest,
+-- a month moves a debt by less than 100,000,000,000, and a year's end by less than 1,900,000,000,000
+abbrev pub most_owed : Phase → ℕ
+most_owed Blank = 0
+most_owed (Open month) = 1000000000 + 2000000000000 * month
+most_owed (YearEnd december) = 101000000000 + 2000000000000 * december
+most_owed Over = 1000000000 + 2000000000000 * 1200
+
+-- the most that a zone carries in a phase: 32 members have at most 64,000,000 kWh over in each month since January
+abbrev pub most_carried : Phase → ℕ
+most_carried Blank = 0
+most_carried (Open month) = 64000000 * (month % 12)
+most_carried (YearEnd december) = 768000000
+most_carried Over = 0
+
+-- the months are those of the calendar, and the holder is a member once the group is opened
+abbrev pub SoundPhase : Phase → (holder members : ℕ) → Type 0
+SoundPhase Blank holder members = Unit {0}
+SoundPhase (Open month) holder members = (month ≤ 1199) × (holder < members)
+SoundPhase (YearEnd december) holder members = (december ≤ 1199) × (december % 12 ≡ 11) × (holder < members)
+SoundPhase Over holder members = holder < members
+
+pub record Sound (group : Group) : Type 0 where
+  pub few : length group.members.items ≤ 32
+  pub each : All (SoundMember (most_owed group.phase)) group.members.items
+  pub carried : (zone : Zone) → in_zone group.carried zone ≤ most_carried group.phase
+  pub phase : SoundPhase group.phase group.holder (length group.members.items)
+
+-- what a member got in a month is at most 2,000,000 kWh of each kind
+pub record SmallSupplies (supplies : ByZone Supply) : Type 0 where
+  pub day_billed : supplies.day.billed ≤ 2000000
+  pub day_covered : supplies.day.covered ≤ 2000000
+  pub night_billed : supplies.night.billed ≤ 2000000
+  pub night_covered : supplies.night.covered ≤ 2000000
+
+-- an account to which a month's cost or a year's credit can be posted
+pub record Postable (account : Account) : Type 0 where
+  pub fraction : account.fraction < 100
+  pub debt : nat_abs account.debt ≤ 2500000000000000
