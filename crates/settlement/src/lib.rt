@@ -1,0 +1,4 @@
+//! A journal run over a book: from a text of entries, issues and year closings to a text of bills and year ends.
+#![tactic(auto)]
+
+pub mod fault;
