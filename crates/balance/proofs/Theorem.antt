@@ -28,13 +28,13 @@ use Rattle.balance.specs.Histories.{Event, Opening, Entering, Drawing, Checking,
 use Rattle.balance.specs.Postings.{Issued, Posting, YearPaid, billed_by, posting, postings}
 
 -- each phase by what it answers
-opened_in : (phase : Phase) (month : ℕ) → open_month phase ≡ Ok month → phase ≡ Open month
+pub opened_in : (phase : Phase) (month : ℕ) → open_month phase ≡ Ok month → phase ≡ Open month
 opened_in Blank month is = absurd cc
 opened_in (Open m) month is = ap Open cc
 opened_in (AtYearEnd d) month is = absurd cc
 opened_in Over month is = absurd cc
 
-ended_in : (phase : Phase) (december : ℕ) → open_year phase ≡ Ok december → phase ≡ AtYearEnd december
+pub ended_in : (phase : Phase) (december : ℕ) → open_year phase ≡ Ok december → phase ≡ AtYearEnd december
 ended_in Blank december is = absurd cc
 ended_in (Open m) december is = absurd cc
 ended_in (AtYearEnd d) december is = ap AtYearEnd cc
@@ -51,7 +51,7 @@ if_ok true p q e is = cc
 if_ok false p q e is = absurd cc
 
 -- an issue's lines are those of the open month, and the group is that after it
-issued_is : (share : Share) (prices : ℕ → Prices) (stamp : Stamp) (places : ℕ) (old new : Group) (lines : List Bill) → issued share prices stamp places old ≡ Ok (lines, new) → (month : ℕ) × (old.phase ≡ Open month) × (lines_of share (prices month) old ≡ lines) × (after_month share prices month old ≡ new)
+pub issued_is : (share : Share) (prices : ℕ → Prices) (stamp : Stamp) (places : ℕ) (old new : Group) (lines : List Bill) → issued share prices stamp places old ≡ Ok (lines, new) → (month : ℕ) × (old.phase ≡ Open month) × (lines_of share (prices month) old ≡ lines) × (after_month share prices month old ≡ new)
 issued_is share prices stamp places old new lines is =
     let (month, draws, rest) = and_then_ok (drawable places old) (λ (m : ℕ). if is_current old stamp then Ok (lines_of share (prices m) old, after_month share prices m old) else Err refused.Draft) (lines, new) is in
     let (m, opens, fits) = and_then_ok (open_month old.phase) (λ (n : ℕ). if nat_lt places (length old.members.items) then Err refused.Lines else Ok n) month draws in

@@ -37,6 +37,13 @@ impl Draft {
         }
     }
 
+    /// The month that it was drawn of.
+    pub fn month(&self) -> Month
+        ensures { result ≡ self.now.month }
+    {
+        self.month
+    }
+
     // Whether the draft is current.
     pub(crate) fn is_current(&self, group: &Group) -> bool
         ensures { result ≡ is_current group.now self.now }

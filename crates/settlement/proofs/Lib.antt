@@ -1,0 +1,6 @@
+mod Billing
+mod Stepping
+mod Lining
+mod Going
+mod Terms
+mod Beginning

@@ -1,1 +1,4 @@
 pub mod Faults
+pub mod Runs
+pub mod Steps
+pub mod Texts

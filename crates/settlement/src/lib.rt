@@ -1,4 +1,7 @@
 //! A journal run over a book: from a text of entries, issues and year closings to a text of bills and year ends.
 #![tactic(auto)]
 
+mod bills;
 pub mod fault;
+pub mod run;
+mod step;

@@ -1,0 +1,82 @@
+-- How far a run has come: what is still to run comes, behind the text so far, to what all comes to.
+use Rattle.std.proofs.Common.{◌≡◌, ◌∙◌, ℕ, ◌+◌, ◌-◌, ◌<◌, ◌≤◌, List, [], ◌∷◌, ◌++◌, length, Ok, Err, None, Some, Result, append_assoc, refl, sym, ap, subst, arith}
+use Rattle.std.proofs.lemmas.List.{append-nil, length-append}
+use Rattle.cells.proofs.Overwriting.{put_as, put_more}
+use Rattle.cells.specs.Cells.{Put}
+use Rattle.group.specs.declared.group.Group.{Group}
+use Rattle.journal.specs.Lines.{LineRead}
+use Rattle.lines.specs.declared.line.Line.{Line}
+use Rattle.lines.specs.declared.refusal.ReadRefusal.{ReadRefusal}
+use Rattle.steps.specs.Months.{Prices, Share}
+use Rattle.settlement.proofs.Billing.{put_none}
+use Rattle.settlement.specs.Runs.{BodyDone, GoesOn, LinesRun, Ran, after_text, ended, stopped}
+use Rattle.settlement.specs.Steps.{LineDone, TextDone, after_reading}
+use Rattle.settlement.specs.Texts.{lines_in}
+use Rattle.settlement.specs.declared.fault.RunRefusal.{RunRefusal}
+use Rattle.settlement.specs.declared.run.Outcome.{Outcome}
+
+pub record Going (share : Share) (prices : ℕ → Prices) (body : List ℕ) (at : ℕ) (old : List ℕ) (start : Group) (written number : ℕ) (rest out : List ℕ) (group : Group) : Type 0 where
+  pub text : List ℕ
+  pub put : Put old at text out written
+  pub begun : at ≤ length old
+  pub inside : written ≤ length out
+  pub counted : number + length rest ≤ length body + 1
+  pub on : (ran : Ran) → LinesRun share prices (length out - written) (number + 1) (lines_in rest) group ran → LinesRun share prices (length old - at) 2 (lines_in body) start (after_text text ran)
+
+pub going_begins : (share : Share) (prices : ℕ → Prices) (body : List ℕ) (at : ℕ) (old : List ℕ) (start : Group) → at ≤ length old → Going share prices body at old start at 1 body old start
+going_begins share prices body at old start inside = record {
+  text = [];
+  put = put_none old at;
+  begun = inside;
+  inside = inside;
+  counted = omega arith;
+  on = λ ran runs. runs;
+}
+
+module _ (share : Share) (prices : ℕ → Prices) (body : List ℕ) (at : ℕ) (old : List ℕ) (start : Group) (written number : ℕ) (rest out : List ℕ) (group : Group) (going : Going share prices body at old start written number rest out group) where
+  abbrev Rest : (line after : List ℕ) → List ℕ → Group → Ran → Type 0
+  Rest line after text new later = LinesRun share prices ((length out - written) - length text) (number + 1 + 1) (lines_in after) new later
+
+  -- the next line and what is behind it run where they do so apart
+  run_next : (line after : List ℕ) (reading : Result Line ReadRefusal) (step : Result (List ℕ × Group) RunRefusal) (ran : Ran) → lines_in rest ≡ line ∷ lines_in after → LineRead line reading → after_reading share prices (length out - written) reading group ≡ step → GoesOn (number + 1) group step (Rest line after) ran → LinesRun share prices (length out - written) (number + 1) (lines_in rest) group ran
+  run_next line after reading step ran lines read is goes =
+      subst (λ ls. LinesRun share prices (length out - written) (number + 1) ls group ran) (sym lines)
+      (reading, read, subst (λ s. GoesOn (number + 1) group s (Rest line after) ran) (sym is) goes)
+
+  -- nothing more is written
+  goes_to : (ran : Ran) → ran.text ≡ [] → LinesRun share prices (length out - written) (number + 1) (lines_in rest) group ran → BodyDone share prices body at (old, start) (record { written = written; fault = ran.fault }) (out, ran.group)
+  goes_to ran nothing runs = (
+    after_text going.text ran,
+    going.on ran runs,
+    (refl, put_as (sym (ap (λ t. going.text ++ t) nothing ∙ append-nil going.text)) going.put, refl),
+  )
+
+  -- there are no more lines
+  pub going_ends : rest ≡ [] → BodyDone share prices body at (old, start) (record { written = written; fault = None }) (out, group)
+  going_ends none =
+      goes_to (ended group) refl
+      (subst (λ r. LinesRun share prices (length out - written) (number + 1) (lines_in r) group (ended group)) (sym none) refl)
+
+  -- the next line is refused
+  pub going_stops : (line after : List ℕ) (refusal : RunRefusal) (new_out : List ℕ) (new : Group) → lines_in rest ≡ line ∷ lines_in after → TextDone share prices line written (out, group) (Err refusal) (new_out, new) → BodyDone share prices body at (old, start) (record { written = written; fault = Some (record { line = number + 1; refusal = refusal }) }) (new_out, new)
+  going_stops line after refusal new_out new lines (reading, read, (is, same)) =
+      subst (λ (pair : List ℕ × Group). BodyDone share prices body at (old, start) (record { written = written; fault = Some (record { line = number + 1; refusal = refusal }) }) pair) (sym same)
+      (goes_to (stopped (number + 1) refusal group) refl
+      (run_next line after reading (Err refusal) (stopped (number + 1) refusal group) lines read is refl))
+
+  -- the next line is done
+  pub going_on : (line after : List ℕ) (end : ℕ) (new_out : List ℕ) (new : Group) → lines_in rest ≡ line ∷ lines_in after → rest ≡ line ++ after → 0 < length line → length new_out ≡ length out → end ≤ length new_out → TextDone share prices line written (out, group) (Ok end) (new_out, new) → Going share prices body at old start end (number + 1) after new_out new
+  going_on line after end new_out new lines whole some wide fits (reading, read, (text, is, put)) =
+      let left : (length out - written) - length text ≡ length new_out - end = omega (arith, put.stop, wide) in
+      record {
+        text = going.text ++ text;
+        put = put_more going.put put going.begun;
+        begun = going.begun;
+        inside = fits;
+        counted = omega (arith, going.counted, ap length whole, length-append line after, some);
+        on = λ ran runs.
+            let here = subst (λ n. LinesRun share prices n (number + 1 + 1) (lines_in after) new ran) (sym left) runs in
+            let from_rest = run_next line after reading (Ok (text, new)) (after_text text ran) lines read is (ran, here, refl) in
+            subst (λ t. LinesRun share prices (length old - at) 2 (lines_in body) start (record ran { text = t }))
+            (sym (append_assoc going.text text ran.text)) (going.on (after_text text ran) from_rest);
+      }

@@ -1,0 +1,80 @@
+-- What the steps of a run come to, by what the calls of the book answer.
+use Rattle.std.proofs.Common.{◌≡◌, ◌∙◌, ℕ, ◌+◌, List, [], ◌++◌, length, take, Ok, Err, Result, if◌then◌else◌, nat_lt, true, false, refl, sym, ap, ap₂, arith}
+use Rattle.std.proofs.lemmas.Bool.Decides.{nat_tests}
+use Rattle.std.proofs.lemmas.Grind.{common_steps}
+use Rattle.balance.proofs.Theorem.{issued_is}
+use Rattle.cells.proofs.Overwriting.{put_as}
+use Rattle.cells.specs.Cells.{Put, overwritten as put_in}
+use Rattle.group.proofs.Stepping.{made_ok}
+use Rattle.group.specs.Results.{and_then, made}
+use Rattle.group.specs.declared.group.Group.{Group}
+use Rattle.group.specs.declared.group.Phase.TheVariants.{YearEnd as AtYearEnd}
+use Rattle.group.specs.declared.refusal.BookRefusal.{BookRefusal}
+use Rattle.ledger.specs.declared.bill.Bill.{Bill}
+use Rattle.ledger.specs.declared.bill.YearEnd.{YearEnd}
+use Rattle.ledger.specs.declared.entry.Entry.{Entry}
+use Rattle.lines.specs.declared.line.Line.{Line}
+use Rattle.lines.specs.declared.line.Line.TheVariants.{Enter, Issue, Year}
+use Rattle.output.specs.Lines.{year_line}
+use Rattle.steps.proofs.Lists.{length-by_place}
+use Rattle.steps.specs.Drafts.{Stamp, after_drawing, after_issue, drawn, issued, overwritten}
+use Rattle.steps.specs.Entries.{after_entry}
+use Rattle.steps.specs.Months.{Prices, Share, bill_of, supplies_at}
+use Rattle.steps.specs.Years.{after_year, closed, open_year, year_figures}
+use Rattle.settlement.proofs.Billing.{put_none}
+use Rattle.settlement.specs.Steps.{after_line, as_refused, done_by, room_checked}
+use Rattle.settlement.specs.Texts.{bills_text}
+use Rattle.settlement.specs.declared.fault.RunRefusal.{RunRefusal}
+use Rattle.settlement.specs.declared.fault.RunRefusal.TheVariants as refused
+
+never_below : (room : ℕ) → nat_lt room 0 ≡ false
+never_below room = grind (arith, nat_tests)
+
+pub entered : (share : Share) (prices : ℕ → Prices) (room : ℕ) (entry : Entry) (group new : Group) (out : List ℕ) (at : ℕ) → after_entry entry group ≡ Ok new → (text : List ℕ) × (after_line share prices room (Enter entry) group ≡ Ok (text, new)) × Put out at text out at
+entered share prices room entry group new out at is =
+    ([], rw is (rw (never_below room) refl), put_none out at)
+
+-- a line that the book accepts and that has the room goes through
+pub goes_through : (share : Share) (prices : ℕ → Prices) (room : ℕ) (line : Line) (group new : Group) (text : List ℕ) → done_by share prices line group ≡ Ok (text, new) → room_checked room line ≡ Ok tt → after_line share prices room line group ≡ Ok (text, new)
+goes_through share prices room line group new text done checked =
+    ap₂ (λ (d : Result (List ℕ × Group) BookRefusal) (r : Result (Unit {0}) RunRefusal). and_then (as_refused refused.Book d) (λ accepted. made (λ has. accepted) r)) done checked
+
+-- a year that is closed in a December
+year_is : (share : Share) (prices : ℕ → Prices) (group new : Group) (figures : YearEnd) (december : ℕ) → closed prices group ≡ Ok (figures, new) → group.phase ≡ AtYearEnd december → done_by share prices Year group ≡ Ok (year_line december group.holder figures, new)
+year_is share prices group new figures december closes ended =
+    let ended_at : open_year group.phase ≡ Ok december = ap open_year ended in
+    let whole = sym (ap (made (λ d. (year_figures (prices d) group, after_year prices d group))) ended_at) ∙ closes in
+    let pair : ◌≡◌ {A = YearEnd × Group} (year_figures (prices december) group, after_year prices december group) (figures, new) = cc in
+    ap (made (λ d. (year_line d group.holder (year_figures (prices d) group), after_year prices d group))) ended_at
+    ∙ ap (λ (p : YearEnd × Group). Ok (year_line december group.holder p.0, p.1)) pair
+
+pub year_written : (share : Share) (prices : ℕ → Prices) (room : ℕ) (group new : Group) (figures : YearEnd) (december place : ℕ) (old : List ℕ) (at : ℕ) (out : List ℕ) (end : ℕ) → closed prices group ≡ Ok (figures, new) → group.phase ≡ AtYearEnd december → place ≡ group.holder → room_checked room Year ≡ Ok tt → end ≡ at + length (year_line december place figures) → out ≡ put_in old at (year_line december place figures) → (text : List ℕ) × (after_line share prices room Year group ≡ Ok (text, new)) × Put old at text out end
+year_written share prices room group new figures december place old at out end closes ended at_place checked stop held =
+    let done = year_is share prices group new figures december closes ended ∙ ap (λ p. Ok (year_line december p figures, new)) (sym at_place) in
+    (_, goes_through share prices room Year group new _ done checked, record { stop = stop; held = held })
+
+-- an issue of a drawing made now
+issue_is : (share : Share) (prices : ℕ → Prices) (group new : Group) (drawing : Stamp × List Bill) (draft : Stamp) (lines : List Bill) → drawn share prices 32 group ≡ Ok drawing → drawing.0 ≡ draft → issued share prices draft 32 group ≡ Ok (lines, new) → done_by share prices Issue group ≡ Ok (bills_text draft.month lines, new)
+issue_is share prices group new drawing draft lines draws is issues =
+    let told : Stamp → List Bill × Group → List ℕ × Group = λ stamp issue. (bills_text stamp.month issue.0, issue.1) in
+    ap (λ d. and_then d (λ (p : Stamp × List Bill). made (told p.0) (issued share prices p.0 32 group))) draws
+    ∙ (ap (λ (s : Stamp). made (told s) (issued share prices s 32 group)) is
+    ∙ ap (made (told draft)) issues)
+
+-- the lines of the issue are at the front of the slice
+at_front : (lines slice new : List Bill) (members : ℕ) → overwritten lines slice ≡ new → length lines ≡ members → take members new ≡ lines
+at_front lines slice new members is many = grind (arith, common_steps)
+
+pub issue_written : (share : Share) (prices : ℕ → Prices) (room : ℕ) (group new : Group) (draft : Stamp) (month members : ℕ) (blank mid lines : List Bill) (old : List ℕ) (at : ℕ) (out : List ℕ) (end : ℕ) → after_drawing share prices group blank ≡ Ok (draft, mid) → after_issue share prices draft (group, mid) ≡ Ok (new, lines) → length blank ≡ 32 → length mid ≡ 32 → month ≡ draft.month → members ≡ length group.members.items → room_checked room Issue ≡ Ok tt → end ≡ at + length (bills_text month (take members lines)) → out ≡ put_in old at (bills_text month (take members lines)) → (text : List ℕ) × (after_line share prices room Issue group ≡ Ok (text, new)) × Put old at text out end
+issue_written share prices room group new draft month members blank mid lines old at out end draws issues wide wide_too in_month as_many checked stop held =
+    let (drawing, drawn_is, drawn_pair) = made_ok (λ (d : Stamp × List Bill). (d.0, overwritten d.1 blank)) (drawn share prices (length blank) group) (draft, mid) draws in
+    let (issue, issued_so, issue_pair) = made_ok (λ (i : List Bill × Group). (i.1, overwritten i.0 mid)) (issued share prices draft (length mid) group) (new, lines) issues in
+    let same_draft : drawing.0 ≡ draft = ap (λ (p : Stamp × List Bill). p.0) drawn_pair in
+    let same_group : issue.1 ≡ new = ap (λ (p : Group × List Bill). p.0) issue_pair in
+    let same_lines : overwritten issue.0 mid ≡ lines = ap (λ (p : Group × List Bill). p.1) issue_pair in
+    let of_32 : issued share prices draft 32 group ≡ Ok (issue.0, new) = ap (λ n. issued share prices draft n group) (sym wide_too) ∙ (issued_so ∙ ap (λ (g : Group). Ok (issue.0, g)) same_group) in
+    let done = issue_is share prices group new drawing draft issue.0 (ap (λ n. drawn share prices n group) (sym wide) ∙ drawn_is) same_draft of_32 in
+    let (m, opened, writes, becomes) = issued_is share prices draft 32 group new issue.0 of_32 in
+    let many : length issue.0 ≡ members = ap length (sym writes) ∙ (length-by_place (λ place member. bill_of (prices m) member (supplies_at share group place)) 0 group.members.items ∙ sym as_many) in
+    let text : bills_text month (take members lines) ≡ bills_text draft.month issue.0 = ap₂ bills_text in_month (at_front issue.0 mid lines members same_lines many) in
+    (_, goes_through share prices room Issue group new _ done checked, put_as text (record { stop = stop; held = held }))

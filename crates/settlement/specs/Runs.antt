@@ -1,0 +1,85 @@
+-- What a run makes of a journal: the output, the group, and the fault that it stops at.
+use Rattle.std.specs.Borrow.{Bor}
+use Rattle.std.specs.Prelude.{◌≡◌, ℕ, ◌+◌, ◌-◌, ◌<◌, ◌≤◌, List, [], ◌∷◌, ◌++◌, length, None, Option, Some, Ok, Err, Result}
+use Rattle.cells.specs.Cells.{Put}
+use Rattle.group.specs.declared.group.Group.{Group}
+use Rattle.journal.specs.Lines.{LineRead}
+use Rattle.lines.specs.Names.{journal_names}
+use Rattle.lines.specs.declared.line.Line.{Line}
+use Rattle.lines.specs.declared.refusal.ReadRefusal.{ReadRefusal}
+use Rattle.output.specs.Lines.{output_names}
+use Rattle.steps.specs.Months.{Prices, Share}
+use Rattle.settlement.specs.Steps.{after_reading}
+use Rattle.settlement.specs.Texts.{lines_in}
+use Rattle.settlement.specs.declared.fault.RunFault.{RunFault}
+use Rattle.settlement.specs.declared.fault.RunRefusal.{RunRefusal}
+use Rattle.settlement.specs.declared.fault.RunRefusal.TheVariants as refused
+use Rattle.settlement.specs.declared.run.Outcome.{Outcome}
+
+-- what a run comes to
+pub record Ran : Type 0 where
+  pub text : List ℕ
+  pub group : Group
+  pub fault : Option RunFault
+
+-- it ends with nothing more
+abbrev pub ended : Group → Ran
+ended group = record { text = []; group = group; fault = None }
+
+-- it stops at a line
+abbrev pub stopped : (number : ℕ) → RunRefusal → Group → Ran
+stopped number refusal group =
+    record { text = []; group = group; fault = Some (record { line = number; refusal = refusal }) }
+
+-- a text before what it comes to
+abbrev pub after_text : List ℕ → Ran → Ran
+after_text text ran = record ran { text = text ++ ran.text }
+
+-- a line is done, and what it comes to is its text and then what the rest comes to from there; or the run stops at it
+abbrev pub GoesOn : (number : ℕ) → Group → Result (List ℕ × Group) RunRefusal → (List ℕ → Group → Ran → Type 0) → Ran → Type 0
+GoesOn number group (Ok done) Rest ran = (later : Ran) × Rest done.0 done.1 later × (ran ≡ after_text done.0 later)
+GoesOn number group (Err refusal) Rest ran = ran ≡ stopped number refusal group
+
+-- the run of lines on a group, with room for so many bytes, comes to this: each line is read, and does what is read of it
+abbrev pub LinesRun : Share → (ℕ → Prices) → (room number : ℕ) → List (List ℕ) → Group → Ran → Type 0
+LinesRun share prices room number [] group ran = ran ≡ ended group
+LinesRun share prices room number (line ∷ lines) group ran =
+    (reading : Result Line ReadRefusal) × LineRead line reading
+    × GoesOn number group (after_reading share prices room reading group)
+    (λ text new later. LinesRun share prices (room - length text) (number + 1) lines new later) ran
+
+-- the text is a journal of at most 65,536 bytes: the line of names, and then its body
+abbrev pub IsJournal : List ℕ → (body : List ℕ) → Type 0
+IsJournal journal body = (length journal ≤ 65536) × (journal ≡ journal_names ++ body)
+
+-- the run of a journal on a group, with room for so many bytes of output, comes to this
+pub data RunsOver (share : Share) (prices : ℕ → Prices) (journal : List ℕ) (room : ℕ) (group : Group) : Ran → Type 0 where
+  no_journal : ((body : List ℕ) → IsJournal journal body → ⊥) → RunsOver share prices journal room group (stopped 1 refused.Journal group)
+  no_room : (body : List ℕ) → IsJournal journal body → room < 4096 → RunsOver share prices journal room group (stopped 1 refused.Room group)
+  runs : (body : List ℕ) (ran : Ran) → IsJournal journal body → 4096 ≤ room
+      → LinesRun share prices (room - length output_names) 2 (lines_in body) group ran
+      → RunsOver share prices journal room group (after_text output_names ran)
+
+-- a run that writes from a place on answers and leaves what it comes to: it tells the fault and the place after its text,
+-- which stands in the output, and the group is the one after it
+abbrev pub RunDone : Ran → (at : ℕ) → (old : List ℕ × Group) → Outcome → (new : List ℕ × Group) → Type 0
+RunDone ran at old answer new =
+    (answer.fault ≡ ran.fault) × Put old.0 at ran.text new.0 answer.written × (new.1 ≡ ran.group)
+
+-- the lines of a body are run
+abbrev pub BodyDone : Share → (ℕ → Prices) → (body : List ℕ) → (at : ℕ) → (old : List ℕ × Group) → Outcome → (new : List ℕ × Group) → Type 0
+BodyDone share prices body at old answer new =
+    (ran : Ran) × LinesRun share prices (length old.0 - at) 2 (lines_in body) old.1 ran × RunDone ran at old answer new
+
+-- a journal is run, and what it comes to is written at the start of the output
+abbrev pub JournalDone : Share → (ℕ → Prices) → (journal : List ℕ) → (old : List ℕ × Group) → Outcome → (new : List ℕ × Group) → Type 0
+JournalDone share prices journal old answer new =
+    (ran : Ran) × RunsOver share prices journal (length old.0) old.1 ran × RunDone ran 0 old answer new
+
+-- line 1 is gone through: its body, and the place after the line of names that stands in the output; or it is refused
+abbrev pub Begun : (journal old : List ℕ) → Result (Bor (List ℕ) × ℕ) RunRefusal → (new : List ℕ) → Type 0
+Begun journal old (Ok begun) new = IsJournal journal begun.0.now × (4096 ≤ length old) × Put old 0 output_names new begun.1
+Begun journal old (Err refused.Journal) new = ((body : List ℕ) → IsJournal journal body → ⊥) × (new ≡ old)
+Begun journal old (Err refused.Room) new = (body : List ℕ) × IsJournal journal body × (length old < 4096) × (new ≡ old)
+Begun journal old (Err (refused.Line refusal)) new = ⊥
+Begun journal old (Err (refused.Book refusal)) new = ⊥

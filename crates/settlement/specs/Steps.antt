@@ -1,0 +1,66 @@
+-- What a line of a journal does: the text that it writes and the group after it, or why it is refused.
+use Rattle.std.specs.Prelude.{◌≡◌, ℕ, ◌-◌, if◌then◌else◌, List, [], length, nat_lt, Ok, Err, Result}
+use Rattle.cells.specs.Cells.{Put}
+use Rattle.group.specs.Results.{and_then, made}
+use Rattle.group.specs.declared.group.Group.{Group}
+use Rattle.group.specs.declared.refusal.BookRefusal.{BookRefusal}
+use Rattle.journal.specs.Lines.{LineRead}
+use Rattle.lines.specs.declared.line.Line.{Line}
+use Rattle.lines.specs.declared.line.Line.TheVariants.{Enter, Issue, Year}
+use Rattle.lines.specs.declared.refusal.ReadRefusal.{ReadRefusal}
+use Rattle.output.specs.Lines.{year_line}
+use Rattle.steps.specs.Drafts.{drawn, issued}
+use Rattle.steps.specs.Entries.{after_entry}
+use Rattle.steps.specs.Months.{Prices, Share}
+use Rattle.steps.specs.Years.{after_year, open_year, year_figures}
+use Rattle.settlement.specs.Texts.{bills_text}
+use Rattle.settlement.specs.declared.fault.RunRefusal.{RunRefusal}
+use Rattle.settlement.specs.declared.fault.RunRefusal.TheVariants as refused
+
+-- what a line does where nothing refuses it: an entry is entered, an issue issues a drawing made now, and a year is closed
+abbrev pub done_by : Share → (ℕ → Prices) → Line → Group → Result (List ℕ × Group) BookRefusal
+done_by share prices (Enter entry) group = made (λ new. ([], new)) (after_entry entry group)
+done_by share prices Issue group =
+    and_then (drawn share prices 32 group) (λ drawing.
+    made (λ issue. (bills_text drawing.0.month issue.0, issue.1)) (issued share prices drawing.0 32 group))
+done_by share prices Year group =
+    made (λ december.
+    (year_line december group.holder (year_figures (prices december) group), after_year prices december group)) (open_year group.phase)
+
+-- the bytes that the output must have left for a line
+abbrev pub room_for : Line → ℕ
+room_for (Enter entry) = 0
+room_for Issue = 4096
+room_for Year = 4096
+
+-- a refusal as the run's
+abbrev pub as_refused : {A E : Type 0} → (E → RunRefusal) → Result A E → Result A RunRefusal
+as_refused refusal_of (Ok x) = Ok x
+as_refused refusal_of (Err e) = Err (refusal_of e)
+
+-- whether the output has the bytes left
+abbrev pub room_checked : (room : ℕ) → Line → Result (Unit {0}) RunRefusal
+room_checked room line = if nat_lt room (room_for line) then Err refused.Room else Ok tt
+
+-- what a line does: the book refuses it before the output does
+abbrev pub after_line : Share → (ℕ → Prices) → (room : ℕ) → Line → Group → Result (List ℕ × Group) RunRefusal
+after_line share prices room line group =
+    and_then (as_refused refused.Book (done_by share prices line group)) (λ done.
+    made (λ checked. done) (room_checked room line))
+
+-- what is read of a line does the same, where it is a line
+abbrev pub after_reading : Share → (ℕ → Prices) → (room : ℕ) → Result Line ReadRefusal → Group → Result (List ℕ × Group) RunRefusal
+after_reading share prices room reading group =
+    and_then (as_refused refused.Line reading) (λ line. after_line share prices room line group)
+
+-- a line did what its step says: the text of the step stands in the output from a place on, and the group is that of the
+-- step; or the line is refused as the step is, and both are as they were
+abbrev pub LineDone : Result (List ℕ × Group) RunRefusal → (at : ℕ) → (old : List ℕ × Group) → Result ℕ RunRefusal → (new : List ℕ × Group) → Type 0
+LineDone step at old (Ok end) new = (text : List ℕ) × (step ≡ Ok (text, new.1)) × Put old.0 at text new.0 end
+LineDone step at old (Err refusal) new = (step ≡ Err refusal) × (new ≡ old)
+
+-- the text of a line did what is read of it
+abbrev pub TextDone : Share → (ℕ → Prices) → (text : List ℕ) → (at : ℕ) → (old : List ℕ × Group) → Result ℕ RunRefusal → (new : List ℕ × Group) → Type 0
+TextDone share prices text at old answer new =
+    (reading : Result Line ReadRefusal) × LineRead text reading
+    × LineDone (after_reading share prices (length old.0 - at) reading old.1) at old answer new

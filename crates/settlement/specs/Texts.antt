@@ -1,0 +1,29 @@
+-- The lines of a text, and the lines of the bills of a month.
+use Rattle.std.specs.Borrow.{Bor}
+use Rattle.std.specs.Prelude.{◌≡◌, ℕ, ◌==◌, ◌<◌, if◌then◌else◌, List, [], ◌∷◌, ◌++◌, length, Option, MatchOption}
+use Rattle.std.specs.List.{concat}
+use Rattle.ledger.specs.declared.bill.Bill.{Bill}
+use Rattle.output.specs.Lines.{bill_line}
+use Rattle.steps.specs.Months.{by_place}
+
+-- a byte before the first of some lines
+abbrev pub onto_first : (byte : ℕ) → List (List ℕ) → List (List ℕ)
+onto_first byte [] = (byte ∷ []) ∷ []
+onto_first byte (line ∷ lines) = (byte ∷ line) ∷ lines
+
+-- the lines of a text, each with the line feed that ends it; what follows the last line feed is a line that has none
+abbrev pub lines_in : (text : List ℕ) → List (List ℕ)
+lines_in [] = []
+lines_in (byte ∷ text) = if byte == 10 then (byte ∷ []) ∷ lines_in text else onto_first byte (lines_in text)
+
+-- the lines of the bills of a month, in order of place
+abbrev pub bills_text : (month : ℕ) → List Bill → List ℕ
+bills_text month bills = concat (by_place (bill_line month) 0 bills)
+
+-- the first line of a text and what follows it, or none where there is no text
+abbrev pub NextLine : (text : List ℕ) → Option (Bor (List ℕ) × Bor (List ℕ)) → Type 0
+NextLine text r =
+    MatchOption r (text ≡ [])
+    (λ parts.
+    (text ≡ parts.0.now ++ parts.1.now) × (0 < length parts.0.now)
+    × (lines_in text ≡ parts.0.now ∷ lines_in parts.1.now))

@@ -1,0 +1,50 @@
+//! The lines of the output that a line of a journal writes.
+ghost use Rattle.std.specs.Prelude.{◌≡◌, ◌+◌, ◌<◌, ◌≤◌, Some, length, slice_get};
+ghost use Rattle.cells.specs.Cells.{overwritten};
+ghost use Rattle.settlement.specs.Texts.{bills_text};
+
+use calendar::days::Month;
+use ledger::bill::Bill;
+use output::lines::{Figures, write_figures};
+
+// Writes the line of a member's figures from `at` on, where there is room for any, and answers the place after it.
+pub(crate) fn write_whole<F: Figures>(
+    month: Month,
+    place: usize,
+    figures: F,
+    out: &mut [u8],
+    at: usize,
+) -> usize
+    requires { at + 128 ≤ length out.old }
+    ensures end { result ≡ at + length (F.Figures.line month place figures) }
+    ensures text { out.new ≡ overwritten out.old at (F.Figures.line month place figures) }
+    ensures within_128 { length (F.Figures.line month place figures) ≤ 128 }
+{
+    let Ok(end) = write_figures(month, place, figures, out, at) else {
+        unreachable!()
+    };
+    end
+}
+
+// The bill at a place. The one of a `for` over the slice has no such plain name in a proof.
+fn bill_at(bills: &[Bill], place: usize) -> Bill
+    requires { place < length bills.now }
+    ensures { slice_get bills.now place ≡ Some result }
+{
+    bills[place]
+}
+
+// Writes the lines of a month's bills from `at` on, where there is room for 32 of any, and answers the place after them.
+pub(crate) fn write_bills(month: Month, bills: &[Bill], out: &mut [u8], at: usize) -> usize
+    requires few { length bills.now ≤ 32 }
+    requires room { at + 4096 ≤ length out.old }
+    ensures end { result ≡ at + length (bills_text month bills.now) }
+    ensures text { out.new ≡ overwritten out.old at (bills_text month bills.now) }
+    ensures within_4096 { length (bills_text month bills.now) ≤ 4096 }
+{
+    let mut end = at;
+    for place in 0..bills.len() {
+        end = write_whole(month, place, bill_at(bills, place), out, end);
+    }
+    end
+}

@@ -1,0 +1,137 @@
+//! What a line of a journal does to a book and to the output.
+ghost use Rattle.std.specs.Prelude.{◌≡◌, ◌≤◌, ◌-◌, IfOk, length};
+ghost use Rattle.lines.specs.declared.line.Line.TheVariants as lines;
+ghost use Rattle.settlement.specs.Steps.{LineDone, TextDone, after_line, room_checked};
+ghost use Rattle.steps.specs.Books.{SameTerms};
+
+use crate::bills::{write_bills, write_whole};
+use crate::fault::RunRefusal;
+use book::book::Book;
+use group::group::Phase;
+use journal::read::read_line;
+use ledger::bill::Bill;
+use ledger::entry::Entry;
+use lines::line::Line;
+use sharing::rule::{PLACES, SharingRule};
+use tariff::tariff::Tariff;
+
+/// The bytes that the output must have left where a line writes.
+pub const OUTPUT_ROOM: usize = 4_096;
+
+// Enters what a line says.
+fn enter<R: SharingRule, T: Tariff>(
+    book: &mut Book<R, T>,
+    entry: Entry,
+    out: &mut [u8],
+    at: usize,
+) -> Result<usize, RunRefusal>
+    ensures done { LineDone
+        (after_line (R.SharingRule.sharing book.old.rule) (T.Tariff.price book.old.tariff)
+        (length out.old - at) (lines.Enter entry) book.old.group)
+        at (out.old, book.old.group) result (out.new, book.new.group) }
+    ensures terms { SameTerms book.old book.new }
+{
+    book.enter(entry)?;
+    Ok(at)
+}
+
+// Whether the output has the room left that a line that writes asks for.
+pub(crate) fn check_room(room: usize) -> Result<(), RunRefusal>
+    ensures answer { result ≡ room_checked room lines.Issue }
+    ensures room { IfOk result (λ _. 4096 ≤ room) }
+{
+    if room < OUTPUT_ROOM {
+        return Err(RunRefusal::Room);
+    }
+    Ok(())
+}
+
+// Closes the year, and writes the line of its figures.
+fn close_year<R: SharingRule, T: Tariff>(
+    book: &mut Book<R, T>,
+    out: &mut [u8],
+    at: usize,
+) -> Result<usize, RunRefusal>
+    requires { at ≤ length out.old }
+    ensures done { LineDone
+        (after_line (R.SharingRule.sharing book.old.rule) (T.Tariff.price book.old.tariff)
+        (length out.old - at) lines.Year book.old.group)
+        at (out.old, book.old.group) result (out.new, book.new.group) }
+    ensures terms { SameTerms book.old book.new }
+    ensures inside { IfOk result (λ end. end ≤ length out.new) }
+{
+    book.year_end()?;
+    check_room(out.len() - at)?;
+    let Phase::YearEnd(december) = book.phase() else {
+        unreachable!()
+    };
+    let holder = book.holder();
+    let figures = book.close_year()?;
+    Ok(write_whole(december, holder, figures, out, at))
+}
+
+// Draws the open month, issues it, and writes the lines of its bills.
+fn issue<R: SharingRule, T: Tariff>(
+    book: &mut Book<R, T>,
+    out: &mut [u8],
+    at: usize,
+) -> Result<usize, RunRefusal>
+    requires { at ≤ length out.old }
+    ensures done { LineDone
+        (after_line (R.SharingRule.sharing book.old.rule) (T.Tariff.price book.old.tariff)
+        (length out.old - at) lines.Issue book.old.group)
+        at (out.old, book.old.group) result (out.new, book.new.group) }
+    ensures terms { SameTerms book.old book.new }
+    ensures inside { IfOk result (λ end. end ≤ length out.new) }
+{
+    let mut bills = [Bill::default(); PLACES];
+    let draft = book.draw(&mut bills)?;
+    if let Err(refusal) = check_room(out.len() - at) {
+        book.withdraw(draft);
+        return Err(refusal);
+    }
+    let month = draft.month();
+    let members = book.members();
+    book.issue(draft, &mut bills)?;
+    Ok(write_bills(month, &bills[..members], out, at))
+}
+
+// Does what a line says, writes what that comes to from `at` on, and answers the place after it; or refuses, with the book and the output as they were.
+pub(crate) fn carry_out<R: SharingRule, T: Tariff>(
+    book: &mut Book<R, T>,
+    line: Line,
+    out: &mut [u8],
+    at: usize,
+) -> Result<usize, RunRefusal>
+    requires { at ≤ length out.old }
+    ensures done { LineDone
+        (after_line (R.SharingRule.sharing book.old.rule) (T.Tariff.price book.old.tariff)
+        (length out.old - at) line book.old.group)
+        at (out.old, book.old.group) result (out.new, book.new.group) }
+    ensures terms { SameTerms book.old book.new }
+    ensures inside { IfOk result (λ end. end ≤ length out.new) }
+{
+    match line {
+        Line::Enter(entry) => enter(book, entry, out, at),
+        Line::Issue => issue(book, out, at),
+        Line::Year => close_year(book, out, at),
+    }
+}
+
+// The same for the text of a line, which is read first.
+pub(crate) fn run_line<R: SharingRule, T: Tariff>(
+    book: &mut Book<R, T>,
+    text: &[u8],
+    number: usize,
+    out: &mut [u8],
+    at: usize,
+) -> Result<usize, RunRefusal>
+    requires { at ≤ length out.old }
+    ensures done { TextDone (R.SharingRule.sharing book.old.rule) (T.Tariff.price book.old.tariff)
+        text.now at (out.old, book.old.group) result (out.new, book.new.group) }
+    ensures terms { SameTerms book.old book.new }
+    ensures inside { IfOk result (λ end. end ≤ length out.new) }
+{
+    let line = read_line(text, number)?;
+    carry_out(book, line, out, at)
+}
