@@ -4,3 +4,4 @@ mod Lining
 mod Going
 mod Terms
 mod Beginning
+mod Histories

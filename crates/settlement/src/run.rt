@@ -1,5 +1,6 @@
 //! A run of a journal over a book.
 ghost use Rattle.std.specs.Prelude.{◌≤◌, length};
+ghost use Rattle.settlement.specs.Leading.{LeadsOnBalanced};
 ghost use Rattle.settlement.specs.Runs.{Begun, BodyDone, JournalDone};
 ghost use Rattle.settlement.specs.Texts.{NextLine};
 ghost use Rattle.steps.specs.Books.{SameTerms};
@@ -34,6 +35,7 @@ pub fn run<R: SharingRule, T: Tariff>(
     ensures outcome { JournalDone (R.SharingRule.sharing book.old.rule) (T.Tariff.price book.old.tariff)
         journal.now (out.old, book.old.group) result (out.new, book.new.group) }
     ensures terms { SameTerms book.old book.new }
+    ensures balance { LeadsOnBalanced R.SharingRule.sharing T.Tariff.price book.old book.new }
 {
     match begin(journal, out) {
         Ok((body, at)) => run_body(book, body, out, at),
