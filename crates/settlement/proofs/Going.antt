@@ -10,10 +10,9 @@ use Rattle.lines.specs.declared.refusal.ReadRefusal.{ReadRefusal}
 use Rattle.steps.specs.Months.{Prices, Share}
 use Rattle.settlement.proofs.Billing.{put_none}
 use Rattle.settlement.specs.Runs.{BodyDone, GoesOn, LinesRun, Ran, after_text, ended, stopped}
-use Rattle.settlement.specs.Steps.{LineDone, TextDone, after_reading}
+use Rattle.settlement.specs.Steps.{TextDone, after_reading}
 use Rattle.settlement.specs.Texts.{lines_in}
 use Rattle.settlement.specs.declared.fault.RunRefusal.{RunRefusal}
-use Rattle.settlement.specs.declared.run.Outcome.{Outcome}
 
 pub record Going (share : Share) (prices : ℕ → Prices) (body : List ℕ) (at : ℕ) (old : List ℕ) (start : Group) (written number : ℕ) (rest out : List ℕ) (group : Group) : Type 0 where
   pub text : List ℕ

@@ -1,15 +1,11 @@
 -- A run makes calls on the book, so a longer history leads to the group that it comes to.
 use Rattle.std.proofs.Common.{◌≡◌, ◌∙◌, ℕ, ◌+◌, ◌-◌, List, [], ◌∷◌, ◌++◌, length, Ok, Err, Result, append_assoc, refl, sym, ap, subst}
 use Rattle.balance.proofs.Theorem.{throughout}
-use Rattle.balance.specs.Balances.{LeadsTo}
 use Rattle.balance.specs.Histories.{Event, Closing, Drawing, Entering, Issuing, Leads}
 use Rattle.group.proofs.Stepping.{and_then_ok, made_ok}
-use Rattle.group.specs.Results.{and_then, made}
+use Rattle.group.specs.Results.{made}
 use Rattle.group.specs.declared.group.Group.{Group}
-use Rattle.group.specs.declared.refusal.BookRefusal.{BookRefusal}
-use Rattle.journal.specs.Lines.{LineRead}
 use Rattle.ledger.specs.declared.bill.Bill.{Bill}
-use Rattle.ledger.specs.declared.bill.YearEnd.{YearEnd}
 use Rattle.lines.specs.declared.line.Line.{Line}
 use Rattle.lines.specs.declared.line.Line.TheVariants.{Enter, Issue, Year}
 use Rattle.lines.specs.declared.refusal.ReadRefusal.{ReadRefusal}
@@ -20,7 +16,7 @@ use Rattle.steps.specs.Entries.{after_entry}
 use Rattle.steps.specs.Months.{Keeps, Prices, Share}
 use Rattle.steps.specs.Years.{after_year, open_year, year_figures}
 use Rattle.settlement.specs.Leading.{LeadsOnBalanced}
-use Rattle.settlement.specs.Runs.{GoesOn, LinesRun, Ran, RunDone, RunsOver, no_journal, no_room, runs}
+use Rattle.settlement.specs.Runs.{GoesOn, LinesRun, Ran, RunsOver, no_journal, no_room, runs}
 use Rattle.settlement.specs.Steps.{after_line, after_reading, as_refused, done_by, room_checked}
 use Rattle.settlement.specs.Texts.{bills_text, lines_in}
 use Rattle.settlement.specs.declared.fault.RunRefusal.{RunRefusal}

@@ -5,3 +5,4 @@ mod Going
 mod Terms
 mod Beginning
 mod Histories
+mod Settling

@@ -1,9 +1,8 @@
 -- The first line of a text.
-use Rattle.std.specs.Borrow.{Bor}
-use Rattle.std.proofs.Common.{◌≡◌, ◌∙◌, ℕ, zero, suc, ◌+◌, ◌<◌, ◌≤◌, List, [], ◌∷◌, ◌++◌, length, take, drop, get_or, slice_index, Some, None, Option, ⊎_elim, refl, sym, ap, ap₂, arith}
+use Rattle.std.proofs.Common.{◌≡◌, ◌∙◌, ℕ, zero, suc, ◌+◌, ◌<◌, List, [], ◌∷◌, ◌++◌, length, take, drop, get_or, Some, None, ⊎_elim, refl, sym, ap, ap₂, arith}
 use Rattle.std.proofs.lemmas.Bool.Decides.{eqb_tells}
 use Rattle.std.proofs.lemmas.List.{drop_all, length-take, take-append-drop, take_all}
-use Rattle.fields.specs.Marks.{Free, Next}
+use Rattle.fields.specs.Marks.{Next}
 use Rattle.settlement.specs.Texts.{lines_in, onto_first}
 
 -- it ends with the first line feed

@@ -1,5 +1,5 @@
 -- What the steps of a run come to, by what the calls of the book answer.
-use Rattle.std.proofs.Common.{◌≡◌, ◌∙◌, ℕ, ◌+◌, List, [], ◌++◌, length, take, Ok, Err, Result, if◌then◌else◌, nat_lt, true, false, refl, sym, ap, ap₂, arith}
+use Rattle.std.proofs.Common.{◌≡◌, ◌∙◌, ℕ, ◌+◌, List, [], length, take, Ok, Result, nat_lt, false, refl, sym, ap, ap₂, arith}
 use Rattle.std.proofs.lemmas.Bool.Decides.{nat_tests}
 use Rattle.std.proofs.lemmas.Grind.{common_steps}
 use Rattle.balance.proofs.Theorem.{issued_is}

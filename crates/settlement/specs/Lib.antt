@@ -1,5 +1,6 @@
 pub mod Faults
 pub mod Leading
 pub mod Runs
+pub mod Setups
 pub mod Steps
 pub mod Texts

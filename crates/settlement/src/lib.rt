@@ -4,4 +4,5 @@
 mod bills;
 pub mod fault;
 pub mod run;
+pub mod setup;
 mod step;

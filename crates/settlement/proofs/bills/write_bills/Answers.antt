@@ -1,5 +1,4 @@
 use Rattle.std.proofs.Common.{arith}
-use Rattle.std.proofs.lemmas.Grind.{common_steps}
 use Rattle.settlement.proofs.Billing.{all_bills, none_so_far, one_more}
 use Rattle.settlement.proofs.bills.write_bills.Goals as goal
 

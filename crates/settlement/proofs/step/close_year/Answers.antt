@@ -1,4 +1,4 @@
-use Rattle.std.proofs.Common.{arith, rules}
+use Rattle.std.proofs.Common.{arith}
 use Rattle.std.proofs.lemmas.Grind.{common_steps}
 use Rattle.settlement.proofs.Stepping.{year_written}
 use Rattle.settlement.proofs.step.close_year.Goals as goal

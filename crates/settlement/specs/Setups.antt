@@ -1,0 +1,32 @@
+-- What a group is opened and settled as.
+use Rattle.std.specs.Prelude.{◌≡◌, ℕ, List, [], ◌∷◌, Ok, Err, Result}
+use Rattle.balance.specs.Balances.{BalancedThroughout}
+use Rattle.balance.specs.Histories.{Opening}
+use Rattle.group.specs.Groups.{opened}
+use Rattle.group.specs.declared.group.Group.{Group}
+use Rattle.group.specs.declared.refusal.BookRefusal.{BookRefusal}
+use Rattle.steps.specs.Books.{BookState}
+use Rattle.steps.specs.Months.{Prices, Share}
+use Rattle.settlement.specs.Runs.{JournalDone}
+use Rattle.settlement.specs.declared.run.Outcome.{Outcome}
+use Rattle.settlement.specs.declared.setup.Setup.{Setup}
+
+-- the group of a setup, or why it does not open
+abbrev pub group_of : {R T : Type 0} → Setup R T → Result Group BookRefusal
+group_of setup = opened setup.number setup.start setup.holder setup.records.items
+
+-- a book of the group is opened, settled by its rule and its tariff, and the history of this one call leads to it, balanced;
+-- or the book refuses
+abbrev pub Opened : {R T : Type 0} → (R → Share) → (T → ℕ → Prices) → Setup R T → Result (BookState R T) BookRefusal → Type 0
+Opened share prices setup (Ok book) =
+    (group_of setup ≡ Ok book.group) × (book.rule ≡ setup.rule) × (book.tariff ≡ setup.tariff)
+    × BalancedThroughout (share book.rule) (prices book.tariff)
+    (Opening setup.number setup.start setup.holder setup.records.items (Ok tt) ∷ []) book.group
+Opened share prices setup (Err refusal) = group_of setup ≡ Err refusal
+
+-- the journal is run over a book of the group; or the book does not open, and the output is as it was
+abbrev pub Settled : {R T : Type 0} → (R → Share) → (T → ℕ → Prices) → Setup R T → (journal old : List ℕ) → Result Outcome BookRefusal → (new : List ℕ) → Type 0
+Settled share prices setup journal old (Ok outcome) new =
+    (group : Group) × (group_of setup ≡ Ok group)
+    × (after : Group) × JournalDone (share setup.rule) (prices setup.tariff) journal (old, group) outcome (new, after)
+Settled share prices setup journal old (Err refusal) new = (group_of setup ≡ Err refusal) × (new ≡ old)
