@@ -13,7 +13,7 @@ use Rattle.settlement.specs.declared.setup.Setup.{Setup}
 
 -- the group of a setup, or why it does not open
 abbrev pub group_of : {R T : Type 0} → Setup R T → Result Group BookRefusal
-group_of setup = opened setup.number setup.start setup.holder setup.records.items
+group_of setup = opened setup.number setup.start setup.holder setup.records.now
 
 -- a book of the group is opened, settled by its rule and its tariff, and the history of this one call leads to it, balanced;
 -- or the book refuses
@@ -21,7 +21,7 @@ abbrev pub Opened : {R T : Type 0} → (R → Share) → (T → ℕ → Prices) 
 Opened share prices setup (Ok book) =
     (group_of setup ≡ Ok book.group) × (book.rule ≡ setup.rule) × (book.tariff ≡ setup.tariff)
     × BalancedThroughout (share book.rule) (prices book.tariff)
-    (Opening setup.number setup.start setup.holder setup.records.items (Ok tt) ∷ []) book.group
+    (Opening setup.number setup.start setup.holder setup.records.now (Ok tt) ∷ []) book.group
 Opened share prices setup (Err refusal) = group_of setup ≡ Err refusal
 
 -- the journal is run over a book of the group; or the book does not open, and the output is as it was

@@ -3,17 +3,16 @@ ghost use Rattle.std.specs.Prelude.{◌≡◌};
 ghost use Rattle.settlement.specs.Setups.{Opened, Settled};
 
 use crate::run::{Outcome, run};
-use arrayvec::ArrayVec;
 use book::book::Book;
 use calendar::days::Month;
 use group::member::OpeningRecord;
 use group::refusal::BookRefusal;
-use sharing::rule::{PLACES, SharingRule};
+use sharing::rule::SharingRule;
 use tariff::tariff::Tariff;
 
 /// A group as its book opens, with the rule and the tariff that settle it.
 #[derive(Drop)]
-pub struct Setup<R, T> {
+pub struct Setup<'a, R, T> {
     /// The number of the group.
     pub number: u32,
     /// The first month.
@@ -21,31 +20,31 @@ pub struct Setup<R, T> {
     /// The place of the holder.
     pub holder: usize,
     /// What each member opens with, in order of place.
-    pub records: ArrayVec<OpeningRecord, PLACES>,
+    pub records: &'a [OpeningRecord],
     /// The sharing rule.
     pub rule: R,
     /// The tariff.
     pub tariff: T,
 }
 
-impl<R: SharingRule + Drop, T: Tariff + Drop> Setup<R, T> {
+impl<R: SharingRule + Drop, T: Tariff + Drop> Setup<'_, R, T> {
     /// A book of the group, with its first month open.
     pub fn open(self) -> Result<Book<R, T>, BookRefusal>
-        ensures opened { Opened R.SharingRule.sharing T.Tariff.price self result }
+        ensures opened { Opened R.SharingRule.sharing T.Tariff.price self.entry result }
     {
         let mut book = Book::new(self.rule, self.tariff);
-        book.open(self.number, self.start, self.holder, &self.records)?;
+        book.open(self.number, self.start, self.holder, self.records)?;
         Ok(book)
     }
 }
 
 /// Opens a book of the group, and runs a journal over it.
 pub fn settle<R: SharingRule + Drop, T: Tariff + Drop>(
-    setup: Setup<R, T>,
+    setup: Setup<'_, R, T>,
     journal: &[u8],
     out: &mut [u8],
 ) -> Result<Outcome, BookRefusal>
-    ensures { Settled R.SharingRule.sharing T.Tariff.price setup journal.now out.old result out.new }
+    ensures { Settled R.SharingRule.sharing T.Tariff.price setup.entry journal.now out.old result out.new }
 {
     let mut book = setup.open()?;
     Ok(run(&mut book, journal, out))

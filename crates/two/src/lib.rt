@@ -1,0 +1,4 @@
+//! A group of two members, and the program that settles it.
+#![tactic(auto)]
+
+pub mod two;
