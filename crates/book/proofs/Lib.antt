@@ -1,3 +1,4 @@
 mod Paid
 mod Posted
 mod Supplies
+mod Written

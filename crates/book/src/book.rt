@@ -11,7 +11,7 @@ ghost use Rattle.steps.specs.Entries.{after_entry};
 ghost use Rattle.steps.specs.Years.{closed, previewed};
 
 use crate::draft::Draft;
-use crate::month::{drawable, month_end, post, write};
+use crate::month::{drawable, issue_lines, write_lines};
 use crate::year::{open_year, post_year, year_end};
 use calendar::days::Month;
 use group::group::{Group, Phase};
@@ -185,8 +185,7 @@ impl<R: SharingRule, T: Tariff> Book<R, T> {
             self.now (Drawing (length lines.old) (drawing_told result (lines_in self.now.group lines.new))) self.now }
     {
         let month = drawable(&self.group, lines.len())?;
-        let end = month_end(&self.rule, &self.tariff, &self.group, month);
-        write(&end.lines, lines);
+        write_lines(&self.rule, &self.tariff, &self.group, month, lines);
         Ok(Draft::of(&self.group, month))
     }
 
@@ -216,9 +215,7 @@ impl<R: SharingRule, T: Tariff> Book<R, T> {
         if !current {
             return Err(BookRefusal::Draft);
         }
-        let end = month_end(&self.rule, &self.tariff, &self.group, month);
-        write(&end.lines, lines);
-        post(&mut self.group, end, month);
+        issue_lines(&self.rule, &self.tariff, &mut self.group, month, lines);
         Ok(())
     }
 

@@ -14,5 +14,5 @@ pub returns-clause-balance : goal.returns-clause-balance
 returns-clause-balance g c =
     let book = c.args.self.now in
     let same : c.self.inside.group ≡ book.group = grind (arith, common_steps) in
-    let draws = drawing_is (g.R.SharingRule.sharing book.rule) (g.T.Tariff.price book.tariff) (length c.args.lines.now) book.group c.in_ok-month.month c.month_end-end.result.lines.items c.write.new.slice c.args.lines.now c.of.result (grind (arith, common_steps)) (grind (arith, common_steps)) (grind (arith, common_steps)) (grind (arith, common_steps)) in
-    quiet_goes_on g.R.SharingRule.sharing g.T.Tariff.price g.met.R.SharingRule.fair book (Drawing (length c.args.lines.now) (Ok (c.of.result, lines_in book.group c.write.new.slice))) (draws, refl)
+    let draws = drawing_is (g.R.SharingRule.sharing book.rule) (g.T.Tariff.price book.tariff) (length c.args.lines.now) book.group c.in_ok-month.month c.write_lines.new.lines c.args.lines.now c.of.result (grind (arith, common_steps)) (grind (arith, common_steps)) (grind (arith, common_steps)) in
+    quiet_goes_on g.R.SharingRule.sharing g.T.Tariff.price g.met.R.SharingRule.fair book (Drawing (length c.args.lines.now) (Ok (c.of.result, lines_in book.group c.write_lines.new.lines))) (draws, refl)

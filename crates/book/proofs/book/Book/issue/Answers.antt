@@ -6,7 +6,7 @@ use Rattle.balance.specs.Histories.{Issuing}
 use Rattle.group.specs.declared.group.Group.{Group}
 use Rattle.steps.proofs.MonthsSound.{month_sound}
 use Rattle.steps.specs.Sound.{Sound}
-use Rattle.book.proofs.Posted.{issued_told, posted_is}
+use Rattle.book.proofs.Posted.{issued_told}
 use Rattle.book.proofs.book.Book.issue.Goals as goal
 
 -- no issue leaves the ranges of the figures
@@ -18,9 +18,8 @@ invariant_of-self g c =
     let month = c.in_ok-month.month in
     let share = g.R.SharingRule.sharing rule in
     let prices = g.T.Tariff.price tariff in
-    let is = posted_is share prices month group c.post.new.group c.month_end-end.result.members c.month_end-end.result.carried c.post.ensures c.month_end-end.ensures.members c.month_end-end.ensures.carried in
     let P : Group → Type 0 = λ g. Sound g in
-    subst P is (month_sound share (g.met.R.SharingRule.fair rule) prices month (g.met.T.Tariff.bounded tariff month) group c.in_ok-month.ensures.opened c.self.invariant)
+    subst P (sym c.issue_lines.ensures.group) (month_sound share (g.met.R.SharingRule.fair rule) prices month (g.met.T.Tariff.bounded tariff month) group c.in_ok-month.ensures.opened c.self.invariant)
 
 pub returns-in_err-month-clause-balance : goal.returns-in_err-month-clause-balance
 returns-in_err-month-clause-balance g c =
@@ -37,5 +36,5 @@ returns-clause-balance g c =
     let share = g.R.SharingRule.sharing c.self.inside.rule in
     let prices = g.T.Tariff.price c.self.inside.tariff in
     let same : group ≡ c.args.self.now.group = grind (arith, common_steps) in
-    moved_goes_on g.R.SharingRule.sharing g.T.Tariff.price g.met.R.SharingRule.fair c.args.self.now c.self.inside.rule c.self.inside.tariff c.self.inside.group c.post.new.group (Issuing c.args.draft (length c.args.lines.now) (Ok (lines_in c.args.self.now.group c.write.new.slice))) c.self.view_is
-    (issued_told share prices c.args.draft (length c.args.lines.now) group c.args.self.now.group month c.month_end-end.result.lines.items c.write.new.slice c.args.lines.now c.post.new.group same (sym c.in_ok-month.ensures.answer) (grind (arith, common_steps)) c.month_end-end.ensures.lines (posted_is share prices month group c.post.new.group c.month_end-end.result.members c.month_end-end.result.carried c.post.ensures c.month_end-end.ensures.members c.month_end-end.ensures.carried) (grind (arith, common_steps)))
+    let told = issued_told share prices c.args.draft (length c.args.lines.now) group c.args.self.now.group month c.issue_lines.new.lines c.args.lines.now c.issue_lines.new.group same (sym c.in_ok-month.ensures.answer) (grind (arith, common_steps)) c.issue_lines.ensures.lines c.issue_lines.ensures.group in
+    moved_goes_on g.R.SharingRule.sharing g.T.Tariff.price g.met.R.SharingRule.fair c.args.self.now c.self.inside.rule c.self.inside.tariff group c.issue_lines.new.group (Issuing c.args.draft (length c.args.lines.now) (Ok (lines_in c.args.self.now.group c.issue_lines.new.lines))) c.self.view_is told
