@@ -15,20 +15,16 @@ use Rattle.steps.specs.Drafts.{Stamp, drawn, issued}
 use Rattle.steps.specs.Entries.{after_entry}
 use Rattle.steps.specs.Months.{Keeps, Prices, Share}
 use Rattle.steps.specs.Years.{after_year, open_year, year_figures}
+use Rattle.settlement.proofs.Stepping.{through}
 use Rattle.settlement.specs.Leading.{LeadsOnBalanced}
 use Rattle.settlement.specs.Runs.{GoesOn, LinesRun, Ran, RunsOver, no_journal, no_room, runs}
-use Rattle.settlement.specs.Steps.{after_line, after_reading, as_refused, done_by, room_checked}
+use Rattle.settlement.specs.Steps.{after_reading, done_by}
 use Rattle.settlement.specs.Texts.{bills_text, lines_in}
 use Rattle.settlement.specs.declared.fault.RunRefusal.{RunRefusal}
-use Rattle.settlement.specs.declared.fault.RunRefusal.TheVariants as refused
 
 -- a history that goes on from this one leads to the group
 abbrev pub LedOn : Share → (ℕ → Prices) → List Event → Group → Type 0
 LedOn share prices history group = (later : List Event) × Leads share prices (later ++ history) group
-
-accepted : {A E : Type 0} (refusal_of : E → RunRefusal) (r : Result A E) (x : A) → as_refused refusal_of r ≡ Ok x → r ≡ Ok x
-accepted refusal_of (Ok y) x is = cc
-accepted refusal_of (Err e) x is = absurd cc
 
 -- the calls of a line that is done
 done_leads : (share : Share) (prices : ℕ → Prices) (line : Line) (group new : Group) (text : List ℕ) → done_by share prices line group ≡ Ok (text, new) → (history : List Event) → Leads share prices history group → LedOn share prices history new
@@ -50,14 +46,6 @@ done_leads share prices Year group new text is history leads =
       (group, leads, ap (made (λ d. (year_figures (prices d) group, after_year prices d group))) ends ∙ ap (λ (g : Group). Ok (year_figures (prices december) group, g)) same),
     )
 
--- those of a line that is read and done
-reading_leads : (share : Share) (prices : ℕ → Prices) (room : ℕ) (reading : Result Line ReadRefusal) (group new : Group) (text : List ℕ) → after_reading share prices room reading group ≡ Ok (text, new) → (history : List Event) → Leads share prices history group → LedOn share prices history new
-reading_leads share prices room reading group new text is history leads =
-    let (line, read, does) = and_then_ok (as_refused refused.Line reading) (λ (l : Line). after_line share prices room l group) (text, new) is in
-    let (done, accepts, checked) = and_then_ok (as_refused refused.Book (done_by share prices line group)) (λ (d : List ℕ × Group). made (λ has. d) (room_checked room line)) (text, new) does in
-    let (has, fits, same) = made_ok (λ (h : Unit {0}). done) (room_checked room line) (text, new) checked in
-    done_leads share prices line group new text (accepted refused.Book (done_by share prices line group) done accepts ∙ ap (λ (d : List ℕ × Group). Ok d) same) history leads
-
 -- a history that goes on from one that goes on
 led_further : (share : Share) (prices : ℕ → Prices) (history : List Event) (group : Group) (first : List Event) → LedOn share prices (first ++ history) group → LedOn share prices history group
 led_further share prices history group first (later, leads) =
@@ -65,7 +53,8 @@ led_further share prices history group first (later, leads) =
 
 goes_lead : (share : Share) (prices : ℕ → Prices) (room number : ℕ) (reading : Result Line ReadRefusal) (group : Group) (Rest : List ℕ → Group → Ran → Type 0) (step : Result (List ℕ × Group) RunRefusal) (ran : Ran) → after_reading share prices room reading group ≡ step → GoesOn number group step Rest ran → ((text : List ℕ) (new : Group) (later : Ran) → Rest text new later → (history : List Event) → Leads share prices history new → LedOn share prices history later.group) → (history : List Event) → Leads share prices history group → LedOn share prices history ran.group
 goes_lead share prices room number reading group Rest (Ok done) ran is (later, rest, comes) further history leads =
-    let (first, led) = reading_leads share prices room reading group done.1 done.0 is history leads in
+    let line = through share prices room reading group done.1 done.0 is in
+    let (first, led) = done_leads share prices line.line group done.1 done.0 line.done history leads in
     let on = led_further share prices history later.group first (further done.0 done.1 later rest (first ++ history) led) in
     subst (λ (r : Ran). LedOn share prices history r.group) (sym comes) on
 goes_lead share prices room number reading group Rest (Err refusal) ran is stops further history leads =

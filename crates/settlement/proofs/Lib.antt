@@ -6,3 +6,6 @@ mod Terms
 mod Beginning
 mod Histories
 mod Settling
+mod Order
+mod Onward
+mod Single

@@ -1,11 +1,11 @@
 -- What the steps of a run come to, by what the calls of the book answer.
-use Rattle.std.proofs.Common.{◌≡◌, ◌∙◌, ℕ, ◌+◌, List, [], length, take, Ok, Result, nat_lt, false, refl, sym, ap, ap₂, arith}
+use Rattle.std.proofs.Common.{◌≡◌, ◌∙◌, ℕ, ◌+◌, List, [], length, take, Ok, Err, Result, nat_lt, false, refl, sym, ap, ap₂, arith}
 use Rattle.std.proofs.lemmas.Bool.Decides.{nat_tests}
 use Rattle.std.proofs.lemmas.Grind.{common_steps}
 use Rattle.balance.proofs.Theorem.{issued_is}
 use Rattle.cells.proofs.Overwriting.{put_as}
 use Rattle.cells.specs.Cells.{Put, overwritten as put_in}
-use Rattle.group.proofs.Stepping.{made_ok}
+use Rattle.group.proofs.Stepping.{and_then_ok, made_ok}
 use Rattle.group.specs.Results.{and_then, made}
 use Rattle.group.specs.declared.group.Group.{Group}
 use Rattle.group.specs.declared.group.Phase.TheVariants.{YearEnd as AtYearEnd}
@@ -15,6 +15,7 @@ use Rattle.ledger.specs.declared.bill.YearEnd.{YearEnd}
 use Rattle.ledger.specs.declared.entry.Entry.{Entry}
 use Rattle.lines.specs.declared.line.Line.{Line}
 use Rattle.lines.specs.declared.line.Line.TheVariants.{Enter, Issue, Year}
+use Rattle.lines.specs.declared.refusal.ReadRefusal.{ReadRefusal}
 use Rattle.output.specs.Lines.{year_line}
 use Rattle.steps.proofs.Lists.{length-by_place}
 use Rattle.steps.specs.Drafts.{Stamp, after_drawing, after_issue, drawn, issued, overwritten}
@@ -22,7 +23,7 @@ use Rattle.steps.specs.Entries.{after_entry}
 use Rattle.steps.specs.Months.{Prices, Share, bill_of, supplies_at}
 use Rattle.steps.specs.Years.{after_year, closed, open_year, year_figures}
 use Rattle.settlement.proofs.Billing.{put_none}
-use Rattle.settlement.specs.Steps.{after_line, as_refused, done_by, room_checked}
+use Rattle.settlement.specs.Steps.{after_line, after_reading, as_refused, done_by, room_checked}
 use Rattle.settlement.specs.Texts.{bills_text}
 use Rattle.settlement.specs.declared.fault.RunRefusal.{RunRefusal}
 use Rattle.settlement.specs.declared.fault.RunRefusal.TheVariants as refused
@@ -78,3 +79,24 @@ issue_written share prices room group new draft month members blank mid lines ol
     let many : length issue.0 ≡ members = ap length (sym writes) ∙ (length-by_place (λ place member. bill_of (prices m) member (supplies_at share group place)) 0 group.members.items ∙ sym as_many) in
     let text : bills_text month (take members lines) ≡ bills_text draft.month issue.0 = ap₂ bills_text in_month (at_front issue.0 mid lines members same_lines many) in
     (_, goes_through share prices room Issue group new _ done checked, put_as text (record { stop = stop; held = held }))
+
+accepted : {A E : Type 0} (refusal_of : E → RunRefusal) (r : Result A E) (x : A) → as_refused refusal_of r ≡ Ok x → r ≡ Ok x
+accepted refusal_of (Ok y) x is = cc
+accepted refusal_of (Err e) x is = absurd cc
+
+-- a line that goes through was read, and the book accepted it
+pub record Through (share : Share) (prices : ℕ → Prices) (reading : Result Line ReadRefusal) (group new : Group) (text : List ℕ) : Type 0 where
+  pub line : Line
+  pub is : reading ≡ Ok line
+  pub done : done_by share prices line group ≡ Ok (text, new)
+
+pub through : (share : Share) (prices : ℕ → Prices) (room : ℕ) (reading : Result Line ReadRefusal) (group new : Group) (text : List ℕ) → after_reading share prices room reading group ≡ Ok (text, new) → Through share prices reading group new text
+through share prices room reading group new text is =
+    let (line, read, does) = and_then_ok (as_refused refused.Line reading) (λ (l : Line). after_line share prices room l group) (text, new) is in
+    let (done, accepts, checked) = and_then_ok (as_refused refused.Book (done_by share prices line group)) (λ (d : List ℕ × Group). made (λ has. d) (room_checked room line)) (text, new) does in
+    let (has, fits, same) = made_ok (λ (h : Unit {0}). done) (room_checked room line) (text, new) checked in
+    record {
+      line = line;
+      is = accepted refused.Line reading line read;
+      done = accepted refused.Book (done_by share prices line group) done accepts ∙ ap (λ (d : List ℕ × Group). Ok d) same;
+    }

@@ -1,4 +1,5 @@
 pub mod Faults
+pub mod Laws
 pub mod Leading
 pub mod Runs
 pub mod Setups

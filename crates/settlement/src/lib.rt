@@ -3,6 +3,7 @@
 
 mod bills;
 pub mod fault;
+pub mod law;
 pub mod run;
 pub mod setup;
 mod step;

@@ -1,0 +1,76 @@
+-- The output of a run is what the accepted lines write, in order.
+use Rattle.std.proofs.Common.{◌≡◌, ◌∙◌, ℕ, suc, ◌+◌, ◌-◌, List, [], ◌∷◌, ◌++◌, length, None, Option, Some, Ok, Err, Result, refl, sym, ap, subst, arith}
+use Rattle.std.specs.List.{concat}
+use Rattle.group.proofs.Stepping.{made_ok}
+use Rattle.group.specs.declared.group.Group.{Group}
+use Rattle.journal.specs.Lines.{LineRead}
+use Rattle.lines.specs.declared.line.Line.{Line}
+use Rattle.lines.specs.declared.line.Line.TheVariants.{Enter, Issue, Year}
+use Rattle.lines.specs.declared.refusal.ReadRefusal.{ReadRefusal}
+use Rattle.steps.specs.Entries.{after_entry}
+use Rattle.steps.specs.Months.{Prices, Share}
+use Rattle.settlement.proofs.Stepping.{through}
+use Rattle.settlement.specs.Laws.{Accepted, InOrder, OutputInOrder, StopsBehind, closed, entered, issued, nothing}
+use Rattle.settlement.specs.Runs.{GoesOn, LinesRun, Ran, after_text, stopped}
+use Rattle.settlement.specs.Steps.{after_reading, done_by}
+use Rattle.settlement.specs.declared.fault.RunFault.{RunFault}
+use Rattle.settlement.specs.declared.fault.RunRefusal.{RunRefusal}
+
+-- one accepted line more in front
+more : (share : Share) (prices : ℕ → Prices) (line : Line) (lines : List Line) (group new after : Group) (text : List ℕ) (texts : List (List ℕ)) → done_by share prices line group ≡ Ok (text, new) → Accepted share prices lines new texts after → (all : List (List ℕ)) × Accepted share prices (line ∷ lines) group all after × (text ++ concat texts ≡ concat all)
+more share prices (Enter entry) lines group new after text texts done rest =
+    let (g, enters, pair) = made_ok (λ (h : Group). let nothing_written : List ℕ = [] in (nothing_written, h)) (after_entry entry group) (text, new) done in
+    let same : g ≡ new = ap (λ (p : List ℕ × Group). p.1) pair in
+    let none : [] ≡ text = ap (λ (p : List ℕ × Group). p.0) pair in
+    (texts, entered entry lines group new after texts (enters ∙ ap (λ h. Ok h) same) rest, ap (λ t. t ++ concat texts) (sym none))
+more share prices Issue lines group new after text texts done rest = (text ∷ texts, issued lines group new after text texts done rest, refl)
+more share prices Year lines group new after text texts done rest = (text ∷ texts, closed lines group new after text texts done rest, refl)
+
+-- the stop is told from the line before on
+stop_more : (first accepted all : ℕ) (fault : Option RunFault) → StopsBehind (first + 1) accepted all fault → StopsBehind first (suc accepted) (suc all) fault
+stop_more first many all None is = omega (arith, is)
+stop_more first many all (Some fault) is = omega (arith, is)
+
+in_order_more : (share : Share) (prices : ℕ → Prices) (first : ℕ) (text_line : List ℕ) (rest : List (List ℕ)) (group new : Group) (text : List ℕ) (line : Line) (later : Ran) → LineRead text_line (Ok line) → done_by share prices line group ≡ Ok (text, new) → InOrder share prices (first + 1) rest new later → InOrder share prices first (text_line ∷ rest) group (after_text text later)
+in_order_more share prices first text_line rest group new text line later read done order =
+    let (all, taken, writes) = more share prices line order.accepted group new later.group text order.texts done order.taken in
+    record {
+      accepted = line ∷ order.accepted;
+      texts = all;
+      read = (read, order.read);
+      taken = taken;
+      output = ap (λ t. text ++ t) order.output ∙ writes;
+      stop = stop_more first (length order.accepted) (length rest) later.fault order.stop;
+    }
+
+none_in_order : (share : Share) (prices : ℕ → Prices) (first : ℕ) (lines : List (List ℕ)) (group : Group) (refusal : RunRefusal) → InOrder share prices first lines group (stopped first refusal group)
+none_in_order share prices first lines group refusal = record {
+  accepted = [];
+  texts = [];
+  read = tt;
+  taken = nothing group;
+  output = refl;
+  stop = omega arith;
+}
+
+goes_in_order : (share : Share) (prices : ℕ → Prices) (room first : ℕ) (text_line : List ℕ) (rest : List (List ℕ)) (reading : Result Line ReadRefusal) (group : Group) (Rest : List ℕ → Group → Ran → Type 0) (step : Result (List ℕ × Group) RunRefusal) (ran : Ran) → LineRead text_line reading → after_reading share prices room reading group ≡ step → GoesOn first group step Rest ran → ((text : List ℕ) (new : Group) (later : Ran) → Rest text new later → InOrder share prices (first + 1) rest new later) → InOrder share prices first (text_line ∷ rest) group ran
+goes_in_order share prices room first text_line rest reading group Rest (Ok done) ran read is (later, runs, comes) further =
+    let line = through share prices room reading group done.1 done.0 is in
+    let known = subst (λ (r : Result Line ReadRefusal). LineRead text_line r) line.is read in
+    subst (λ (r : Ran). InOrder share prices first (text_line ∷ rest) group r) (sym comes)
+    (in_order_more share prices first text_line rest group done.1 done.0 line.line later known line.done (further done.0 done.1 later runs))
+goes_in_order share prices room first text_line rest reading group Rest (Err refusal) ran read is comes further =
+    subst (λ (r : Ran). InOrder share prices first (text_line ∷ rest) group r) (sym comes) (none_in_order share prices first (text_line ∷ rest) group refusal)
+
+in_order : (share : Share) (prices : ℕ → Prices) (lines : List (List ℕ)) (room first : ℕ) (group : Group) (ran : Ran) → LinesRun share prices room first lines group ran → InOrder share prices first lines group ran
+in_order share prices [] room first group ran is =
+    subst (λ (r : Ran). InOrder share prices first [] group r) (sym is)
+    (record { accepted = []; texts = []; read = tt; taken = nothing group; output = refl; stop = refl })
+in_order share prices (line ∷ lines) room first group ran (reading, read, goes) =
+    goes_in_order share prices room first line lines reading group
+    (λ text new later. LinesRun share prices (room - length text) (first + 1) lines new later)
+    (after_reading share prices room reading group) ran read refl goes
+    (λ text new later. in_order share prices lines (room - length text) (first + 1) new later)
+
+pub output_in_order : OutputInOrder
+output_in_order share prices room first lines group ran is = in_order share prices lines room first group ran is

@@ -1,0 +1,78 @@
+-- What holds of every run, by the lines alone.
+use Rattle.std.specs.Prelude.{◌≡◌, ℕ, ◌+◌, ◌-◌, ◌≤◌, List, [], ◌∷◌, ◌++◌, length, take, None, Option, Some, Ok}
+use Rattle.std.specs.List.{AllZip, concat}
+use Rattle.group.specs.declared.group.Group.{Group}
+use Rattle.journal.specs.Lines.{LineRead}
+use Rattle.ledger.specs.declared.entry.Entry.{Entry}
+use Rattle.lines.specs.declared.line.Line.{Line}
+use Rattle.lines.specs.declared.line.Line.TheVariants.{Enter, Issue, Year}
+use Rattle.steps.specs.Entries.{after_entry}
+use Rattle.steps.specs.Months.{Prices, Share}
+use Rattle.settlement.specs.Runs.{LinesRun, Ran, RunsOver, after_text}
+use Rattle.settlement.specs.Steps.{done_by}
+use Rattle.settlement.specs.Texts.{lines_in}
+use Rattle.settlement.specs.declared.fault.RunFault.{RunFault}
+
+-- the book accepts these lines one after another: an entry writes nothing, an issue and a year closing write a text each
+pub data Accepted (share : Share) (prices : ℕ → Prices) : (lines : List Line) → (group : Group) → (texts : List (List ℕ)) → (after : Group) → Type 0 where
+  nothing : (group : Group) → Accepted share prices [] group [] group
+  entered : (entry : Entry) (lines : List Line) (group new after : Group) (texts : List (List ℕ)) → after_entry entry group ≡ Ok new
+      → Accepted share prices lines new texts after → Accepted share prices (Enter entry ∷ lines) group texts after
+  issued : (lines : List Line) (group new after : Group) (text : List ℕ) (texts : List (List ℕ)) → done_by share prices Issue group ≡ Ok (text, new)
+      → Accepted share prices lines new texts after → Accepted share prices (Issue ∷ lines) group (text ∷ texts) after
+  closed : (lines : List Line) (group new after : Group) (text : List ℕ) (texts : List (List ℕ)) → done_by share prices Year group ≡ Ok (text, new)
+      → Accepted share prices lines new texts after → Accepted share prices (Year ∷ lines) group (text ∷ texts) after
+
+-- where lines that are counted from a number stopped behind the first of them: the next one is that of the fault, or there is none
+abbrev pub StopsBehind : (first accepted all : ℕ) → Option RunFault → Type 0
+StopsBehind first accepted all None = accepted ≡ all
+StopsBehind first accepted all (Some fault) = fault.line ≡ first + accepted
+
+-- the first of the lines are read and accepted, all before the fault, and the output is what they write, in order
+pub record InOrder (share : Share) (prices : ℕ → Prices) (first : ℕ) (lines : List (List ℕ)) (group : Group) (ran : Ran) : Type 0 where
+  pub accepted : List Line
+  pub texts : List (List ℕ)
+  pub read : AllZip (λ text line. LineRead text (Ok line)) (take (length accepted) lines) accepted
+  pub taken : Accepted share prices accepted group texts ran.group
+  pub output : ran.text ≡ concat texts
+  pub stop : StopsBehind first (length accepted) (length lines) ran.fault
+
+-- so it is in every run of lines
+abbrev pub OutputInOrder : Type 0
+OutputInOrder =
+    (share : Share) (prices : ℕ → Prices) (room first : ℕ) (lines : List (List ℕ)) (group : Group) (ran : Ran)
+    → LinesRun share prices room first lines group ran → InOrder share prices first lines group ran
+
+-- lines that are run to their end and more lines from there are one run of all of them
+abbrev pub RunsGoOn : Type 0
+RunsGoOn =
+    (share : Share) (prices : ℕ → Prices) (room first : ℕ) (lines more : List (List ℕ)) (group : Group) (ran later : Ran)
+    → LinesRun share prices room first lines group ran → ran.fault ≡ None
+    → LinesRun share prices (room - length ran.text) (first + length lines) more ran.group later
+    → LinesRun share prices room first (lines ++ more) group (after_text ran.text later)
+
+-- behind a fault more lines change nothing
+abbrev pub RunsStop : Type 0
+RunsStop =
+    (share : Share) (prices : ℕ → Prices) (room first : ℕ) (lines more : List (List ℕ)) (group : Group) (ran : Ran) (fault : RunFault)
+    → LinesRun share prices room first lines group ran → ran.fault ≡ Some fault
+    → LinesRun share prices room first (lines ++ more) group ran
+
+-- the text is whole lines, of which the last one too has its line feed
+abbrev pub WholeLines : List ℕ → Type 0
+WholeLines text = (front : List ℕ) × (text ≡ front ++ 10 ∷ [])
+
+-- a journal that is run to its end and then more lines are one run of the longer journal
+abbrev pub JournalsGoOn : Type 0
+JournalsGoOn =
+    (share : Share) (prices : ℕ → Prices) (room : ℕ) (journal more : List ℕ) (group : Group) (ran later : Ran)
+    → WholeLines journal → length (journal ++ more) ≤ 65536
+    → RunsOver share prices journal room group ran → ran.fault ≡ None
+    → LinesRun share prices (room - length ran.text) (length (lines_in journal) + 1) (lines_in more) ran.group later
+    → RunsOver share prices (journal ++ more) room group (after_text ran.text later)
+
+-- a run comes to one thing alone
+abbrev pub OneOutcome : Type 0
+OneOutcome =
+    (share : Share) (prices : ℕ → Prices) (journal : List ℕ) (room : ℕ) (group : Group) (ran other : Ran)
+    → RunsOver share prices journal room group ran → RunsOver share prices journal room group other → ran ≡ other
