@@ -1,5 +1,5 @@
 -- The output of a run is what the accepted lines write, in order.
-use Rattle.std.proofs.Common.{◌≡◌, ◌∙◌, ℕ, suc, ◌+◌, ◌-◌, List, [], ◌∷◌, ◌++◌, length, None, Option, Some, Ok, Err, Result, refl, sym, ap, subst, arith}
+use Rattle.std.proofs.Common.{◌≡◌, ◌∙◌, ℕ, suc, ◌+◌, ◌-◌, List, [], ◌∷◌, ◌++◌, length, None, Option, Some, inl, inr, Ok, Err, Result, refl, sym, ap, subst, arith}
 use Rattle.std.specs.List.{concat}
 use Rattle.group.proofs.Stepping.{made_ok}
 use Rattle.group.specs.declared.group.Group.{Group}
@@ -11,8 +11,9 @@ use Rattle.steps.specs.Entries.{after_entry}
 use Rattle.steps.specs.Months.{Prices, Share}
 use Rattle.settlement.proofs.Stepping.{through}
 use Rattle.settlement.specs.Laws.{Accepted, InOrder, OutputInOrder, StopsBehind, closed, entered, issued, nothing}
-use Rattle.settlement.specs.Runs.{GoesOn, LinesRun, Ran, after_text, stopped}
+use Rattle.settlement.specs.Runs.{GoesOn, LinesRun, Ran, after_text, no_journal, no_room, runs, stopped}
 use Rattle.settlement.specs.Steps.{after_reading, done_by}
+use Rattle.settlement.specs.Texts.{lines_in}
 use Rattle.settlement.specs.declared.fault.RunFault.{RunFault}
 use Rattle.settlement.specs.declared.fault.RunRefusal.{RunRefusal}
 
@@ -54,11 +55,11 @@ none_in_order share prices first lines group refusal = record {
 }
 
 goes_in_order : (share : Share) (prices : ℕ → Prices) (room first : ℕ) (text_line : List ℕ) (rest : List (List ℕ)) (reading : Result Line ReadRefusal) (group : Group) (Rest : List ℕ → Group → Ran → Type 0) (step : Result (List ℕ × Group) RunRefusal) (ran : Ran) → LineRead text_line reading → after_reading share prices room reading group ≡ step → GoesOn first group step Rest ran → ((text : List ℕ) (new : Group) (later : Ran) → Rest text new later → InOrder share prices (first + 1) rest new later) → InOrder share prices first (text_line ∷ rest) group ran
-goes_in_order share prices room first text_line rest reading group Rest (Ok done) ran read is (later, runs, comes) further =
+goes_in_order share prices room first text_line rest reading group Rest (Ok done) ran read is (later, behind, comes) further =
     let line = through share prices room reading group done.1 done.0 is in
     let known = subst (λ (r : Result Line ReadRefusal). LineRead text_line r) line.is read in
     subst (λ (r : Ran). InOrder share prices first (text_line ∷ rest) group r) (sym comes)
-    (in_order_more share prices first text_line rest group done.1 done.0 line.line later known line.done (further done.0 done.1 later runs))
+    (in_order_more share prices first text_line rest group done.1 done.0 line.line later known line.done (further done.0 done.1 later behind))
 goes_in_order share prices room first text_line rest reading group Rest (Err refusal) ran read is comes further =
     subst (λ (r : Ran). InOrder share prices first (text_line ∷ rest) group r) (sym comes) (none_in_order share prices first (text_line ∷ rest) group refusal)
 
@@ -73,4 +74,7 @@ in_order share prices (line ∷ lines) room first group ran (reading, read, goes
     (λ text new later. in_order share prices lines (room - length text) (first + 1) new later)
 
 pub output_in_order : OutputInOrder
-output_in_order share prices room first lines group ran is = in_order share prices lines room first group ran is
+output_in_order share prices journal room group ran (no_journal none) = inl (record { fault = refl; text = refl; after = refl })
+output_in_order share prices journal room group ran (no_room body begins short) = inl (record { fault = refl; text = refl; after = refl })
+output_in_order share prices journal room group ran (runs body rest begins long lines) =
+    inr (record { body = body; begins = begins; rest = rest; order = in_order share prices (lines_in body) _ _ group rest lines; names = refl })

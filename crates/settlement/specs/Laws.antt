@@ -1,14 +1,15 @@
 -- What holds of every run, by the lines alone.
-use Rattle.std.specs.Prelude.{◌≡◌, ℕ, ◌+◌, ◌-◌, ◌≤◌, List, [], ◌∷◌, ◌++◌, length, take, None, Option, Some, Ok}
+use Rattle.std.specs.Prelude.{◌≡◌, ℕ, ◌+◌, ◌-◌, ◌≤◌, List, [], ◌∷◌, ◌++◌, length, take, None, Option, Some, Ok, IsSomeAnd, ◌⊎◌}
 use Rattle.std.specs.List.{AllZip, concat}
 use Rattle.group.specs.declared.group.Group.{Group}
 use Rattle.journal.specs.Lines.{LineRead}
 use Rattle.ledger.specs.declared.entry.Entry.{Entry}
 use Rattle.lines.specs.declared.line.Line.{Line}
 use Rattle.lines.specs.declared.line.Line.TheVariants.{Enter, Issue, Year}
+use Rattle.output.specs.Lines.{output_names}
 use Rattle.steps.specs.Entries.{after_entry}
 use Rattle.steps.specs.Months.{Prices, Share}
-use Rattle.settlement.specs.Runs.{LinesRun, Ran, RunsOver, after_text}
+use Rattle.settlement.specs.Runs.{IsJournal, LinesRun, Ran, RunsOver, after_text}
 use Rattle.settlement.specs.Steps.{done_by}
 use Rattle.settlement.specs.Texts.{lines_in}
 use Rattle.settlement.specs.declared.fault.RunFault.{RunFault}
@@ -37,11 +38,25 @@ pub record InOrder (share : Share) (prices : ℕ → Prices) (first : ℕ) (line
   pub output : ran.text ≡ concat texts
   pub stop : StopsBehind first (length accepted) (length lines) ran.fault
 
--- so it is in every run of lines
+-- the run stopped at line 1, with nothing written and nothing done
+pub record StopsAt1 (group : Group) (ran : Ran) : Type 0 where
+  pub fault : IsSomeAnd ran.fault (λ fault. fault.line ≡ 1)
+  pub text : ran.text ≡ []
+  pub after : ran.group ≡ group
+
+-- the output of a journal that is gone into is the line of names, and then what the lines of its body write, in order
+pub record BodyInOrder (share : Share) (prices : ℕ → Prices) (journal : List ℕ) (group : Group) (ran : Ran) : Type 0 where
+  pub body : List ℕ
+  pub begins : IsJournal journal body
+  pub rest : Ran
+  pub order : InOrder share prices 2 (lines_in body) group rest
+  pub names : ran ≡ after_text output_names rest
+
+-- so every run either stops at line 1 or has its output in order
 abbrev pub OutputInOrder : Type 0
 OutputInOrder =
-    (share : Share) (prices : ℕ → Prices) (room first : ℕ) (lines : List (List ℕ)) (group : Group) (ran : Ran)
-    → LinesRun share prices room first lines group ran → InOrder share prices first lines group ran
+    (share : Share) (prices : ℕ → Prices) (journal : List ℕ) (room : ℕ) (group : Group) (ran : Ran)
+    → RunsOver share prices journal room group ran → StopsAt1 group ran ⊎ BodyInOrder share prices journal group ran
 
 -- lines that are run to their end and more lines from there are one run of all of them
 abbrev pub RunsGoOn : Type 0

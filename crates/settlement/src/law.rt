@@ -1,7 +1,7 @@
-//! What holds of every run, as laws over the lines of a journal.
+//! What holds of every run, as laws.
 ghost use Rattle.settlement.specs.Laws.{JournalsGoOn, OneOutcome, OutputInOrder, RunsGoOn, RunsStop};
 
-/// The output of lines that are run is the texts of the issues and year closings among those before the fault, in order.
+/// The output of a run is the line of names and then the texts of the issues and year closings before its fault, in order; or it stops at line 1 and writes nothing.
 pub fn output_in_order()
     ensures { OutputInOrder }
 {}

@@ -15,8 +15,8 @@ use lines::line::Line;
 use sharing::rule::{PLACES, SharingRule};
 use tariff::tariff::Tariff;
 
-/// The bytes that the output must have left where a line writes.
-pub const OUTPUT_ROOM: usize = 4_096;
+// The bytes that the output must have left where a line writes.
+pub(crate) const OUTPUT_ROOM: usize = 4_096;
 
 // Enters what a line says.
 fn enter<R: SharingRule, T: Tariff>(

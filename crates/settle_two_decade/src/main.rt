@@ -1,0 +1,9 @@
+// The program settle_two once more, on ten years of entries; what it must print is what the reference prints.
+#![tactic(auto)]
+
+use std::io;
+use two::program::settle_input;
+
+fn main(rt: HostRuntime) -> io::Result<()> {
+    settle_input(rt)
+}

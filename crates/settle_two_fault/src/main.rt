@@ -1,0 +1,9 @@
+// The program settle_two once more, on a long journal that is refused in its middle; what it must print is what the reference prints.
+#![tactic(auto)]
+
+use std::io;
+use two::program::settle_input;
+
+fn main(rt: HostRuntime) -> io::Result<()> {
+    settle_input(rt)
+}
