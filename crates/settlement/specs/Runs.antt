@@ -9,7 +9,7 @@ use Rattle.lines.specs.declared.line.Line.{Line}
 use Rattle.lines.specs.declared.refusal.ReadRefusal.{ReadRefusal}
 use Rattle.output.specs.Lines.{output_names}
 use Rattle.steps.specs.Months.{Prices, Share}
-use Rattle.settlement.specs.Steps.{after_reading}
+use Rattle.settlement.specs.Steps.{after_reading, output_room}
 use Rattle.settlement.specs.Texts.{lines_in}
 use Rattle.settlement.specs.declared.fault.RunFault.{RunFault}
 use Rattle.settlement.specs.declared.fault.RunRefusal.{RunRefusal}
@@ -55,8 +55,8 @@ IsJournal journal body = (length journal ≤ 65536) × (journal ≡ journal_name
 -- the run of a journal on a group, with room for so many bytes of output, comes to this
 pub data RunsOver (share : Share) (prices : ℕ → Prices) (journal : List ℕ) (room : ℕ) (group : Group) : Ran → Type 0 where
   no_journal : ((body : List ℕ) → IsJournal journal body → ⊥) → RunsOver share prices journal room group (stopped 1 refused.Journal group)
-  no_room : (body : List ℕ) → IsJournal journal body → room < 4096 → RunsOver share prices journal room group (stopped 1 refused.Room group)
-  runs : (body : List ℕ) (ran : Ran) → IsJournal journal body → 4096 ≤ room
+  no_room : (body : List ℕ) → IsJournal journal body → room < output_room → RunsOver share prices journal room group (stopped 1 refused.Room group)
+  runs : (body : List ℕ) (ran : Ran) → IsJournal journal body → output_room ≤ room
       → LinesRun share prices (room - length output_names) 2 (lines_in body) group ran
       → RunsOver share prices journal room group (after_text output_names ran)
 
@@ -78,8 +78,8 @@ JournalDone share prices journal old answer new =
 
 -- line 1 is gone through: its body, and the place after the line of names that stands in the output; or it is refused
 abbrev pub Begun : (journal old : List ℕ) → Result (Bor (List ℕ) × ℕ) RunRefusal → (new : List ℕ) → Type 0
-Begun journal old (Ok begun) new = IsJournal journal begun.0.now × (4096 ≤ length old) × Put old 0 output_names new begun.1
+Begun journal old (Ok begun) new = IsJournal journal begun.0.now × (output_room ≤ length old) × Put old 0 output_names new begun.1
 Begun journal old (Err refused.Journal) new = ((body : List ℕ) → IsJournal journal body → ⊥) × (new ≡ old)
-Begun journal old (Err refused.Room) new = (body : List ℕ) × IsJournal journal body × (length old < 4096) × (new ≡ old)
+Begun journal old (Err refused.Room) new = (body : List ℕ) × IsJournal journal body × (length old < output_room) × (new ≡ old)
 Begun journal old (Err (refused.Line refusal)) new = ⊥
 Begun journal old (Err (refused.Book refusal)) new = ⊥

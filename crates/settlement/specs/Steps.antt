@@ -27,11 +27,15 @@ done_by share prices Year group =
     made (λ december.
     (year_line december group.holder (year_figures (prices december) group), after_year prices december group)) (open_year group.phase)
 
--- the bytes that the output must have left for a line
+-- the bytes that the output must have left where a run writes
+abbrev pub output_room : ℕ
+output_room = 4096
+
+-- those that it must have left for a line
 abbrev pub room_for : Line → ℕ
 room_for (Enter entry) = 0
-room_for Issue = 4096
-room_for Year = 4096
+room_for Issue = output_room
+room_for Year = output_room
 
 -- a refusal as the run's
 abbrev pub as_refused : {A E : Type 0} → (E → RunRefusal) → Result A E → Result A RunRefusal

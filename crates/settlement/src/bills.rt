@@ -1,6 +1,7 @@
 //! The lines of the output that a line of a journal writes.
 ghost use Rattle.std.specs.Prelude.{◌≡◌, ◌+◌, ◌<◌, ◌≤◌, Some, length, slice_get};
 ghost use Rattle.cells.specs.Cells.{overwritten};
+ghost use Rattle.settlement.specs.Steps.{output_room};
 ghost use Rattle.settlement.specs.Texts.{bills_text};
 
 use calendar::days::Month;
@@ -37,10 +38,10 @@ fn bill_at(bills: &[Bill], place: usize) -> Bill
 // Writes the lines of a month's bills from `at` on, where there is room for 32 of any, and answers the place after them.
 pub(crate) fn write_bills(month: Month, bills: &[Bill], out: &mut [u8], at: usize) -> usize
     requires few { length bills.now ≤ 32 }
-    requires room { at + 4096 ≤ length out.old }
+    requires room { at + output_room ≤ length out.old }
     ensures end { result ≡ at + length (bills_text month bills.now) }
     ensures text { out.new ≡ overwritten out.old at (bills_text month bills.now) }
-    ensures within_4096 { length (bills_text month bills.now) ≤ 4096 }
+    ensures within_room { length (bills_text month bills.now) ≤ output_room }
 {
     let mut end = at;
     for place in 0..bills.len() {

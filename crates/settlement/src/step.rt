@@ -1,7 +1,7 @@
 //! What a line of a journal does to a book and to the output.
 ghost use Rattle.std.specs.Prelude.{◌≡◌, ◌≤◌, ◌-◌, IfOk, length};
 ghost use Rattle.lines.specs.declared.line.Line.TheVariants as lines;
-ghost use Rattle.settlement.specs.Steps.{LineDone, TextDone, after_line, room_checked};
+ghost use Rattle.settlement.specs.Steps.{LineDone, TextDone, after_line, output_room, room_checked};
 ghost use Rattle.steps.specs.Books.{SameTerms};
 
 use crate::bills::{write_bills, write_whole};
@@ -38,7 +38,7 @@ fn enter<R: SharingRule, T: Tariff>(
 // Whether the output has the room left that a line that writes asks for.
 pub(crate) fn check_room(room: usize) -> Result<(), RunRefusal>
     ensures answer { result ≡ room_checked room lines.Issue }
-    ensures room { IfOk result (λ _. 4096 ≤ room) }
+    ensures room { IfOk result (λ _. output_room ≤ room) }
 {
     if room < OUTPUT_ROOM {
         return Err(RunRefusal::Room);

@@ -20,5 +20,5 @@ returns-clause-end c = (all_bills _ _ _ _ _ _ _ (omega arith) c.loop-place.invar
 pub returns-clause-text : goal.returns-clause-text
 returns-clause-text c = (all_bills _ _ _ _ _ _ _ (omega arith) c.loop-place.invariant).0.held
 
-pub returns-clause-within_4096 : goal.returns-clause-within_4096
-returns-clause-within_4096 c = omega (arith, (all_bills _ _ _ _ _ _ _ (omega arith) c.loop-place.invariant).1, c.requires.few)
+pub returns-clause-within_room : goal.returns-clause-within_room
+returns-clause-within_room c = omega (arith, (all_bills _ _ _ _ _ _ _ (omega arith) c.loop-place.invariant).1, c.requires.few)
