@@ -30,7 +30,7 @@ more share prices Year lines group new after text texts done rest = (text ∷ te
 -- the stop is told from the line before on
 stop_more : (first accepted all : ℕ) (fault : Option RunFault) → StopsBehind (first + 1) accepted all fault → StopsBehind first (suc accepted) (suc all) fault
 stop_more first many all None is = omega (arith, is)
-stop_more first many all (Some fault) is = omega (arith, is)
+stop_more first many all (Some fault) is = (omega (arith, is.0), omega (arith, is.1))
 
 in_order_more : (share : Share) (prices : ℕ → Prices) (first : ℕ) (text_line : List ℕ) (rest : List (List ℕ)) (group new : Group) (text : List ℕ) (line : Line) (later : Ran) → LineRead text_line (Ok line) → done_by share prices line group ≡ Ok (text, new) → InOrder share prices (first + 1) rest new later → InOrder share prices first (text_line ∷ rest) group (after_text text later)
 in_order_more share prices first text_line rest group new text line later read done order =
@@ -44,14 +44,14 @@ in_order_more share prices first text_line rest group new text line later read d
       stop = stop_more first (length order.accepted) (length rest) later.fault order.stop;
     }
 
-none_in_order : (share : Share) (prices : ℕ → Prices) (first : ℕ) (lines : List (List ℕ)) (group : Group) (refusal : RunRefusal) → InOrder share prices first lines group (stopped first refusal group)
-none_in_order share prices first lines group refusal = record {
+none_in_order : (share : Share) (prices : ℕ → Prices) (first : ℕ) (line : List ℕ) (lines : List (List ℕ)) (group : Group) (refusal : RunRefusal) → InOrder share prices first (line ∷ lines) group (stopped first refusal group)
+none_in_order share prices first line lines group refusal = record {
   accepted = [];
   texts = [];
   read = tt;
   taken = nothing group;
   output = refl;
-  stop = omega arith;
+  stop = (omega arith, omega arith);
 }
 
 goes_in_order : (share : Share) (prices : ℕ → Prices) (room first : ℕ) (text_line : List ℕ) (rest : List (List ℕ)) (reading : Result Line ReadRefusal) (group : Group) (Rest : List ℕ → Group → Ran → Type 0) (step : Result (List ℕ × Group) RunRefusal) (ran : Ran) → LineRead text_line reading → after_reading share prices room reading group ≡ step → GoesOn first group step Rest ran → ((text : List ℕ) (new : Group) (later : Ran) → Rest text new later → InOrder share prices (first + 1) rest new later) → InOrder share prices first (text_line ∷ rest) group ran
@@ -61,7 +61,7 @@ goes_in_order share prices room first text_line rest reading group Rest (Ok done
     subst (λ (r : Ran). InOrder share prices first (text_line ∷ rest) group r) (sym comes)
     (in_order_more share prices first text_line rest group done.1 done.0 line.line later known line.done (further done.0 done.1 later behind))
 goes_in_order share prices room first text_line rest reading group Rest (Err refusal) ran read is comes further =
-    subst (λ (r : Ran). InOrder share prices first (text_line ∷ rest) group r) (sym comes) (none_in_order share prices first (text_line ∷ rest) group refusal)
+    subst (λ (r : Ran). InOrder share prices first (text_line ∷ rest) group r) (sym comes) (none_in_order share prices first text_line rest group refusal)
 
 in_order : (share : Share) (prices : ℕ → Prices) (lines : List (List ℕ)) (room first : ℕ) (group : Group) (ran : Ran) → LinesRun share prices room first lines group ran → InOrder share prices first lines group ran
 in_order share prices [] room first group ran is =

@@ -1,5 +1,5 @@
 -- What holds of every run, by the lines alone.
-use Rattle.std.specs.Prelude.{◌≡◌, ℕ, ◌+◌, ◌-◌, ◌≤◌, List, [], ◌∷◌, ◌++◌, length, take, None, Option, Some, Ok, IsSomeAnd, ◌⊎◌}
+use Rattle.std.specs.Prelude.{◌≡◌, ℕ, ◌<◌, ◌+◌, ◌-◌, ◌≤◌, List, [], ◌∷◌, ◌++◌, length, take, None, Option, Some, Ok, IsSomeAnd, ◌⊎◌}
 use Rattle.std.specs.List.{AllZip, concat}
 use Rattle.group.specs.declared.group.Group.{Group}
 use Rattle.journal.specs.Lines.{LineRead}
@@ -24,10 +24,10 @@ pub data Accepted (share : Share) (prices : ℕ → Prices) : (lines : List Line
   closed : (lines : List Line) (group new after : Group) (text : List ℕ) (texts : List (List ℕ)) → done_by share prices Year group ≡ Ok (text, new)
       → Accepted share prices lines new texts after → Accepted share prices (Year ∷ lines) group (text ∷ texts) after
 
--- where lines that are counted from a number stopped behind the first of them: the next one is that of the fault, or there is none
+-- of so many lines, which are counted from a number on, all are accepted; or the fault is at the one behind those accepted
 abbrev pub StopsBehind : (first accepted all : ℕ) → Option RunFault → Type 0
 StopsBehind first accepted all None = accepted ≡ all
-StopsBehind first accepted all (Some fault) = fault.line ≡ first + accepted
+StopsBehind first accepted all (Some fault) = (fault.line ≡ first + accepted) × (accepted < all)
 
 -- the first of the lines are read and accepted, all before the fault, and the output is what they write, in order
 pub record InOrder (share : Share) (prices : ℕ → Prices) (first : ℕ) (lines : List (List ℕ)) (group : Group) (ran : Ran) : Type 0 where

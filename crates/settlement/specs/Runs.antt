@@ -60,8 +60,8 @@ pub data RunsOver (share : Share) (prices : ℕ → Prices) (journal : List ℕ)
       → LinesRun share prices (room - length output_names) 2 (lines_in body) group ran
       → RunsOver share prices journal room group (after_text output_names ran)
 
--- a run that writes from a place on answers and leaves what it comes to: it tells the fault and the place after its text,
--- which stands in the output, and the group is the one after it
+-- what a run comes to is answered and done: the fault is told, the text stands in the output from a place on, the place
+-- after it is told, and the group is the one that the run comes to
 abbrev pub RunDone : Ran → (at : ℕ) → (old : List ℕ × Group) → Outcome → (new : List ℕ × Group) → Type 0
 RunDone ran at old answer new =
     (answer.fault ≡ ran.fault) × Put old.0 at ran.text new.0 answer.written × (new.1 ≡ ran.group)

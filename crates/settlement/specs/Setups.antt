@@ -1,7 +1,7 @@
 -- What a group is opened and settled as.
 use Rattle.std.specs.Prelude.{◌≡◌, ℕ, List, [], ◌∷◌, Ok, Err, Result}
 use Rattle.balance.specs.Balances.{BalancedThroughout}
-use Rattle.balance.specs.Histories.{Opening}
+use Rattle.balance.specs.Histories.{Event, Opening}
 use Rattle.group.specs.Groups.{opened}
 use Rattle.group.specs.declared.group.Group.{Group}
 use Rattle.group.specs.declared.refusal.BookRefusal.{BookRefusal}
@@ -24,9 +24,11 @@ Opened share prices setup (Ok book) =
     (Opening setup.number setup.start setup.holder setup.records.now (Ok tt) ∷ []) book.group
 Opened share prices setup (Err refusal) = group_of setup ≡ Err refusal
 
--- the journal is run over a book of the group; or the book does not open, and the output is as it was
+-- the journal is run over a book of the group, and a history leads to what that leaves, balanced at its start and after
+-- each of its calls; or the book does not open, and the output is as it was
 abbrev pub Settled : {R T : Type 0} → (R → Share) → (T → ℕ → Prices) → Setup R T → (journal old : List ℕ) → Result Outcome BookRefusal → (new : List ℕ) → Type 0
 Settled share prices setup journal old (Ok outcome) new =
     (group : Group) × (group_of setup ≡ Ok group)
     × (after : Group) × JournalDone (share setup.rule) (prices setup.tariff) journal (old, group) outcome (new, after)
+    × (history : List Event) × BalancedThroughout (share setup.rule) (prices setup.tariff) history after
 Settled share prices setup journal old (Err refusal) new = (group_of setup ≡ Err refusal) × (new ≡ old)

@@ -31,18 +31,18 @@ done_by share prices Year group =
 abbrev pub output_room : ℕ
 output_room = 4096
 
--- those that it must have left for a line
+-- the bytes that the output must have left for this line
 abbrev pub room_for : Line → ℕ
 room_for (Enter entry) = 0
 room_for Issue = output_room
 room_for Year = output_room
 
--- a refusal as the run's
+-- the same answer, with a refusal made one of the run
 abbrev pub as_refused : {A E : Type 0} → (E → RunRefusal) → Result A E → Result A RunRefusal
 as_refused refusal_of (Ok x) = Ok x
 as_refused refusal_of (Err e) = Err (refusal_of e)
 
--- whether the output has the bytes left
+-- whether the output has so many bytes left
 abbrev pub room_checked : (room : ℕ) → Line → Result (Unit {0}) RunRefusal
 room_checked room line = if nat_lt room (room_for line) then Err refused.Room else Ok tt
 
@@ -57,14 +57,19 @@ abbrev pub after_reading : Share → (ℕ → Prices) → (room : ℕ) → Resul
 after_reading share prices room reading group =
     and_then (as_refused refused.Line reading) (λ line. after_line share prices room line group)
 
--- a line did what its step says: the text of the step stands in the output from a place on, and the group is that of the
--- step; or the line is refused as the step is, and both are as they were
-abbrev pub LineDone : Result (List ℕ × Group) RunRefusal → (at : ℕ) → (old : List ℕ × Group) → Result ℕ RunRefusal → (new : List ℕ × Group) → Type 0
-LineDone step at old (Ok end) new = (text : List ℕ) × (step ≡ Ok (text, new.1)) × Put old.0 at text new.0 end
-LineDone step at old (Err refusal) new = (step ≡ Err refusal) × (new ≡ old)
+-- a step is done: its text stands in the output from a place on, and the group is that of the step; or the step is refused,
+-- and both are as they were
+abbrev pub StepDone : Result (List ℕ × Group) RunRefusal → (at : ℕ) → (old : List ℕ × Group) → Result ℕ RunRefusal → (new : List ℕ × Group) → Type 0
+StepDone step at old (Ok end) new = (text : List ℕ) × (step ≡ Ok (text, new.1)) × Put old.0 at text new.0 end
+StepDone step at old (Err refusal) new = (step ≡ Err refusal) × (new ≡ old)
 
--- the text of a line did what is read of it
+-- a line is done
+abbrev pub LineDone : Share → (ℕ → Prices) → Line → (at : ℕ) → (old : List ℕ × Group) → Result ℕ RunRefusal → (new : List ℕ × Group) → Type 0
+LineDone share prices line at old answer new =
+    StepDone (after_line share prices (length old.0 - at) line old.1) at old answer new
+
+-- what is read of a text is done
 abbrev pub TextDone : Share → (ℕ → Prices) → (text : List ℕ) → (at : ℕ) → (old : List ℕ × Group) → Result ℕ RunRefusal → (new : List ℕ × Group) → Type 0
 TextDone share prices text at old answer new =
     (reading : Result Line ReadRefusal) × LineRead text reading
-    × LineDone (after_reading share prices (length old.0 - at) reading old.1) at old answer new
+    × StepDone (after_reading share prices (length old.0 - at) reading old.1) at old answer new

@@ -8,7 +8,7 @@ use calendar::days::Month;
 use ledger::bill::Bill;
 use output::lines::{Figures, write_figures};
 
-// Writes the line of a member's figures from `at` on, where there is room for any, and answers the place after it.
+// Writes the line of a member's figures from `at` on, where any such line has room, and answers the place after it.
 pub(crate) fn write_whole<F: Figures>(
     month: Month,
     place: usize,
@@ -27,7 +27,7 @@ pub(crate) fn write_whole<F: Figures>(
     end
 }
 
-// The bill at a place. The one of a `for` over the slice has no such plain name in a proof.
+// The bill at a place. An element that a `for` gives has no such plain name in a proof.
 fn bill_at(bills: &[Bill], place: usize) -> Bill
     requires { place < length bills.now }
     ensures { slice_get bills.now place ≡ Some result }
@@ -35,7 +35,7 @@ fn bill_at(bills: &[Bill], place: usize) -> Bill
     bills[place]
 }
 
-// Writes the lines of a month's bills from `at` on, where there is room for 32 of any, and answers the place after them.
+// Writes the lines of a month's bills from `at` on, where any 32 such lines have room, and answers the place after them.
 pub(crate) fn write_bills(month: Month, bills: &[Bill], out: &mut [u8], at: usize) -> usize
     requires few { length bills.now ≤ 32 }
     requires room { at + output_room ≤ length out.old }

@@ -1,7 +1,7 @@
 //! What a line of a journal does to a book and to the output.
-ghost use Rattle.std.specs.Prelude.{◌≡◌, ◌≤◌, ◌-◌, IfOk, length};
+ghost use Rattle.std.specs.Prelude.{◌≡◌, ◌≤◌, IfOk, length};
 ghost use Rattle.lines.specs.declared.line.Line.TheVariants as lines;
-ghost use Rattle.settlement.specs.Steps.{LineDone, TextDone, after_line, output_room, room_checked};
+ghost use Rattle.settlement.specs.Steps.{LineDone, TextDone, output_room, room_checked};
 ghost use Rattle.steps.specs.Books.{SameTerms};
 
 use crate::bills::{write_bills, write_whole};
@@ -25,17 +25,15 @@ fn enter<R: SharingRule, T: Tariff>(
     out: &mut [u8],
     at: usize,
 ) -> Result<usize, RunRefusal>
-    ensures done { LineDone
-        (after_line (R.SharingRule.sharing book.old.rule) (T.Tariff.price book.old.tariff)
-        (length out.old - at) (lines.Enter entry) book.old.group)
-        at (out.old, book.old.group) result (out.new, book.new.group) }
+    ensures done { LineDone (R.SharingRule.sharing book.old.rule) (T.Tariff.price book.old.tariff)
+        (lines.Enter entry) at (out.old, book.old.group) result (out.new, book.new.group) }
     ensures terms { SameTerms book.old book.new }
 {
     book.enter(entry)?;
     Ok(at)
 }
 
-// Whether the output has the room left that a line that writes asks for.
+// Whether the output has so much room left as a run asks for where it writes.
 pub(crate) fn check_room(room: usize) -> Result<(), RunRefusal>
     ensures answer { result ≡ room_checked room lines.Issue }
     ensures room { IfOk result (λ _. output_room ≤ room) }
@@ -53,10 +51,8 @@ fn close_year<R: SharingRule, T: Tariff>(
     at: usize,
 ) -> Result<usize, RunRefusal>
     requires { at ≤ length out.old }
-    ensures done { LineDone
-        (after_line (R.SharingRule.sharing book.old.rule) (T.Tariff.price book.old.tariff)
-        (length out.old - at) lines.Year book.old.group)
-        at (out.old, book.old.group) result (out.new, book.new.group) }
+    ensures done { LineDone (R.SharingRule.sharing book.old.rule) (T.Tariff.price book.old.tariff)
+        lines.Year at (out.old, book.old.group) result (out.new, book.new.group) }
     ensures terms { SameTerms book.old book.new }
     ensures inside { IfOk result (λ end. end ≤ length out.new) }
 {
@@ -77,10 +73,8 @@ fn issue<R: SharingRule, T: Tariff>(
     at: usize,
 ) -> Result<usize, RunRefusal>
     requires { at ≤ length out.old }
-    ensures done { LineDone
-        (after_line (R.SharingRule.sharing book.old.rule) (T.Tariff.price book.old.tariff)
-        (length out.old - at) lines.Issue book.old.group)
-        at (out.old, book.old.group) result (out.new, book.new.group) }
+    ensures done { LineDone (R.SharingRule.sharing book.old.rule) (T.Tariff.price book.old.tariff)
+        lines.Issue at (out.old, book.old.group) result (out.new, book.new.group) }
     ensures terms { SameTerms book.old book.new }
     ensures inside { IfOk result (λ end. end ≤ length out.new) }
 {
@@ -104,10 +98,8 @@ pub(crate) fn carry_out<R: SharingRule, T: Tariff>(
     at: usize,
 ) -> Result<usize, RunRefusal>
     requires { at ≤ length out.old }
-    ensures done { LineDone
-        (after_line (R.SharingRule.sharing book.old.rule) (T.Tariff.price book.old.tariff)
-        (length out.old - at) line book.old.group)
-        at (out.old, book.old.group) result (out.new, book.new.group) }
+    ensures done { LineDone (R.SharingRule.sharing book.old.rule) (T.Tariff.price book.old.tariff)
+        line at (out.old, book.old.group) result (out.new, book.new.group) }
     ensures terms { SameTerms book.old book.new }
     ensures inside { IfOk result (λ end. end ≤ length out.new) }
 {

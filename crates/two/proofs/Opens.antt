@@ -1,6 +1,7 @@
 -- The group of two opens, and its prices are those that are named.
 use mathlib.Core.Path.{fun_ext}
 use Rattle.std.proofs.Common.{◌≡◌, ◌∙◌, ℕ, List, Ok, Result, sym, ap₂, subst}
+use Rattle.balance.specs.Balances.{BalancedThroughout}
 use Rattle.group.specs.Groups.{opened}
 use Rattle.group.specs.declared.group.Group.{Group}
 use Rattle.group.specs.declared.refusal.BookRefusal.{BookRefusal}
@@ -21,8 +22,13 @@ opens setup is =
     ∙ ap₂ (λ h r. opened 7 288 h r) is.holder is.records
 
 pub settled_two : (setup : Setup Proportion FixedTariff) (journal old : List ℕ) (outcome : Outcome) (new : List ℕ) → IsTwo setup → Settled (λ rule. proportion) (λ (tariff : FixedTariff) month. charged tariff.prices) setup journal old (Ok outcome) new → SettlesTwo journal old outcome new
-settled_two setup journal old outcome new is (group, opened_so, after, done) =
+settled_two setup journal old outcome new is (group, opened_so, after, done, history, balanced) =
     let pair : ◌≡◌ {A = Result Group BookRefusal} (Ok group) (Ok two) = sym opened_so ∙ opens setup is in
     let same : group ≡ two = cc in
     let priced : ◌≡◌ {A = Prices} (charged setup.tariff.prices) prices = fun_ext (λ service. fun_ext (λ class. is.priced service class)) in
-    (after, subst (λ (p : Prices). JournalDone proportion (λ month. p) journal (old, two) outcome (new, after)) priced (subst (λ (g : Group). JournalDone proportion (λ month. charged setup.tariff.prices) journal (old, g) outcome (new, after)) same done))
+    let over_two = subst (λ (g : Group). JournalDone proportion (λ month. charged setup.tariff.prices) journal (old, g) outcome (new, after)) same done in (
+      after,
+      subst (λ (p : Prices). JournalDone proportion (λ month. p) journal (old, two) outcome (new, after)) priced over_two,
+      history,
+      subst (λ (p : Prices). BalancedThroughout proportion (λ month. p) history after) priced balanced,
+    )

@@ -1,5 +1,7 @@
 -- The group of two, and what a journal over it comes to.
 use Rattle.std.specs.Prelude.{◌≡◌, ℕ, ◌*◌, List, [], ◌∷◌}
+use Rattle.balance.specs.Balances.{BalancedThroughout}
+use Rattle.balance.specs.Histories.{Event}
 use Rattle.group.specs.Members.{opened_member, opening_record}
 use Rattle.group.specs.declared.group.Group.{Group}
 use Rattle.group.specs.declared.group.Phase.TheVariants.{Open}
@@ -59,7 +61,9 @@ two = record {
   entries = 0;
 }
 
--- a journal is run over a book of that group, settled by proportion at these prices
+-- a journal is run over a book of that group, settled by proportion at these prices, and a history leads to what that
+-- leaves, balanced at its start and after each of its calls
 abbrev pub SettlesTwo : (journal old : List ℕ) → Outcome → (new : List ℕ) → Type 0
 SettlesTwo journal old outcome new =
     (after : Group) × JournalDone proportion (λ month. prices) journal (old, two) outcome (new, after)
+    × (history : List Event) × BalancedThroughout proportion (λ month. prices) history after
