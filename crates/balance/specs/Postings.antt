@@ -47,19 +47,21 @@ abbrev pub postings : List Event → List Posting
 postings [] = []
 postings (event ∷ history) = posting event ++ postings history
 
--- whether two zones, two flows, two registers are the same
+-- whether two zones are the same
 abbrev pub same_zone : Zone → Zone → Bool
 same_zone Day Day = true
 same_zone Day Night = false
 same_zone Night Day = false
 same_zone Night Night = true
 
+-- whether two flows are the same
 abbrev pub same_flow : Flow → Flow → Bool
 same_flow Consumed Consumed = true
 same_flow Consumed Delivered = false
 same_flow Delivered Consumed = false
 same_flow Delivered Delivered = true
 
+-- whether two registers are the same
 abbrev pub same_register : MemberRegister → MemberRegister → Bool
 same_register a b = a.place == b.place && (same_zone a.zone b.zone && same_flow a.flow b.flow)
 
@@ -136,6 +138,7 @@ holder_in (Entered entry ∷ earlier) = holder_in earlier
 holder_in (Issued lines ∷ earlier) = holder_in earlier
 holder_in (YearPaid figures ∷ earlier) = holder_in earlier
 
+-- the class of the member at a place, by its opening record
 abbrev pub class_at : (place : ℕ) → List Posting → Class
 class_at place [] = Other
 class_at place (Opened start holder records ∷ earlier) = option_map_or class_of (slice_get records place) Other

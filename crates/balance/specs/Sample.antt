@@ -49,6 +49,7 @@ standing capacity class day night = opening_record capacity class (record {
 abbrev pub members : List OpeningRecord
 members = standing 100 Other 50 0 ∷ standing 0 Household 20 7 ∷ []
 
+-- a register of a member
 abbrev pub register : (place : ℕ) → Zone → Flow → MemberRegister
 register place zone flow = record { place = place; zone = zone; flow = flow }
 
@@ -86,9 +87,11 @@ december =
 abbrev pub line : (billed covered : ByZone ℕ) → (drams debt : ℤ) → Bill
 line billed covered drams debt = record { billed = billed; covered = covered; drams = drams; debt = debt }
 
+-- so many kWh in each zone
 abbrev pub kwh : (day night : ℕ) → ByZone ℕ
 kwh day night = record { day = day; night = night }
 
+-- the line of who is billed nothing
 abbrev pub nothing : Bill
 nothing = line (kwh 0 0) (kwh 0 0) (pos 0) (pos 0)
 
@@ -134,10 +137,11 @@ told_of_december earlier later =
 abbrev pub told : (november december : Bill) → List Event
 told earlier later = Closing (Ok paid_out) ∷ Withdrawing (stamp 10 5) ∷ told_of_december earlier later
 
--- the groups after the issue of December, and at the end
+-- the group after the issue of December
 abbrev pub issued_group : Group
 issued_group = (run line_order sample_prices (november ++ take 4 december)).1
 
+-- the group at the end
 abbrev pub closed_group : Group
 closed_group = (run line_order sample_prices (november ++ december)).1
 

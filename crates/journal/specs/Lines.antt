@@ -30,6 +30,7 @@ pub record HasForm (bs : List ℕ) : Type 0 where
   pub right : AllRight (forms kind) rest
   pub fields : Fields (kind_word kind ∷ rest) bs
 
+-- the kind of a line
 abbrev pub kind_of : Line → Kind
 kind_of (Enter (Reading register day value)) = kinds.Reading
 kind_of (Enter (Change register day value start)) = kinds.Change

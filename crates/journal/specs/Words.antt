@@ -8,14 +8,17 @@ use Rattle.ledger.specs.declared.zone.Zone.TheVariants.{Day, Night}
 use Rattle.journal.specs.declared.kind.Kind.{Kind}
 use Rattle.journal.specs.declared.kind.Kind.TheVariants.{Change, Correction, Issue, Payment, Reading, Year}
 
+-- the word of a zone
 abbrev pub zone_word : Zone → List ℕ
 zone_word Day = codes "DAY"
 zone_word Night = codes "NIGHT"
 
+-- the word of a flow
 abbrev pub flow_word : Flow → List ℕ
 flow_word Consumed = codes "USE"
 flow_word Delivered = codes "GIVE"
 
+-- the word of a kind of line
 abbrev pub kind_word : Kind → List ℕ
 kind_word Reading = codes "READ"
 kind_word Change = codes "SWAP"

@@ -9,6 +9,7 @@ use Rattle.output.specs.declared.fault.Layer.TheVariants.{Book, Text}
 use Rattle.output.specs.declared.refusal.OutputRefusal.{OutputRefusal}
 use Rattle.output.specs.declared.refusal.OutputRefusal.TheVariants.{Room}
 
+-- the word of a layer
 abbrev pub layer_word : Layer → List ℕ
 layer_word Book = codes "BOOK"
 layer_word Text = codes "TEXT"

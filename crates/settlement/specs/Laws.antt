@@ -66,7 +66,7 @@ RunsGoOn =
     → LinesRun share prices (room - length ran.text) (first + length lines) more ran.group later
     → LinesRun share prices room first (lines ++ more) group (after_text ran.text later)
 
--- behind a fault more lines change nothing
+-- lines behind that of a fault change nothing
 abbrev pub RunsStop : Type 0
 RunsStop =
     (share : Share) (prices : ℕ → Prices) (room first : ℕ) (lines more : List (List ℕ)) (group : Group) (ran : Ran) (fault : RunFault)
@@ -77,7 +77,7 @@ RunsStop =
 abbrev pub WholeLines : List ℕ → Type 0
 WholeLines text = (front : List ℕ) × (text ≡ front ++ 10 ∷ [])
 
--- a journal that is run to its end and then more lines are one run of the longer journal
+-- a journal of whole lines that is run to its end, and then more lines, are one run of the longer journal
 abbrev pub JournalsGoOn : Type 0
 JournalsGoOn =
     (share : Share) (prices : ℕ → Prices) (room : ℕ) (journal more : List ℕ) (group : Group) (ran later : Ran)

@@ -1,4 +1,4 @@
--- Where a run leaves a book: where a longer history leads, balanced.
+-- Where a run leaves a book: where a history leads that goes on from any that led to it, balanced.
 use Rattle.std.specs.Prelude.{ℕ, List, ◌++◌}
 use Rattle.balance.specs.Balances.{BalancedThroughout, LeadsTo}
 use Rattle.balance.specs.Histories.{Event}

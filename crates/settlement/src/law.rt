@@ -11,12 +11,12 @@ pub fn runs_go_on()
     ensures { RunsGoOn }
 {}
 
-/// Behind a fault more lines change nothing.
+/// Lines behind that of a fault change nothing.
 pub fn runs_stop()
     ensures { RunsStop }
 {}
 
-/// A journal that is run to its end and then more lines are one run of the longer journal.
+/// A journal of whole lines that is run to its end, and then more lines, are one run of the longer journal, unless that is too long.
 pub fn journals_go_on()
     ensures { JournalsGoOn }
 {}

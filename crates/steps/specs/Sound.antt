@@ -51,6 +51,7 @@ SoundPhase (Open month) holder members = (month ≤ 1199) × (holder < members)
 SoundPhase (YearEnd december) holder members = (december ≤ 1199) × (december % 12 ≡ 11) × (holder < members)
 SoundPhase Over holder members = holder < members
 
+-- the figures of the group are in their ranges, and its phase has the months and the members that it may have
 pub record Sound (group : Group) : Type 0 where
   pub few : length group.members.items ≤ 32
   pub each : All (SoundMember (most_owed group.phase)) group.members.items
