@@ -1,31 +1,71 @@
 -- The output of a run is what the accepted lines write, in order.
 use Rattle.std.proofs.Common.{◌≡◌, ◌∙◌, ℕ, suc, ◌+◌, ◌-◌, List, [], ◌∷◌, ◌++◌, length, None, Option, Some, inl, inr, Ok, Err, Result, refl, sym, ap, subst, arith}
 use Rattle.std.specs.List.{concat}
-use Rattle.group.proofs.Stepping.{made_ok}
+use Rattle.balance.proofs.Theorem.{ended_in}
+use Rattle.balance.specs.Histories.{Closing, Drawing, Entering, Event, Issuing}
+use Rattle.group.proofs.Stepping.{and_then_ok, made_ok}
+use Rattle.group.specs.Results.{made}
 use Rattle.group.specs.declared.group.Group.{Group}
 use Rattle.journal.specs.Lines.{LineRead}
+use Rattle.ledger.specs.declared.bill.Bill.{Bill}
 use Rattle.lines.specs.declared.line.Line.{Line}
 use Rattle.lines.specs.declared.line.Line.TheVariants.{Enter, Issue, Year}
 use Rattle.lines.specs.declared.refusal.ReadRefusal.{ReadRefusal}
+use Rattle.output.specs.Lines.{year_line}
+use Rattle.steps.specs.Drafts.{Stamp, drawn, issued}
 use Rattle.steps.specs.Entries.{after_entry}
 use Rattle.steps.specs.Months.{Prices, Share}
+use Rattle.steps.specs.Years.{after_year, open_year, year_figures}
 use Rattle.settlement.proofs.Stepping.{through}
-use Rattle.settlement.specs.Laws.{Accepted, InOrder, OutputInOrder, StopsBehind, closed, entered, issued, nothing}
+use Rattle.settlement.specs.Accepting.{Accepted, a_closing, an_entry, an_issue, none}
+use Rattle.settlement.specs.Laws.{InOrder, OutputInOrder, StopsBehind}
 use Rattle.settlement.specs.Runs.{GoesOn, LinesRun, Ran, after_text, no_journal, no_room, runs, stopped}
 use Rattle.settlement.specs.Steps.{after_reading, done_by}
-use Rattle.settlement.specs.Texts.{lines_in}
+use Rattle.settlement.specs.Texts.{bills_text, lines_in}
 use Rattle.settlement.specs.declared.fault.RunFault.{RunFault}
 use Rattle.settlement.specs.declared.fault.RunRefusal.{RunRefusal}
 
 -- one accepted line more in front
-more : (share : Share) (prices : ℕ → Prices) (line : Line) (lines : List Line) (group new after : Group) (text : List ℕ) (texts : List (List ℕ)) → done_by share prices line group ≡ Ok (text, new) → Accepted share prices lines new texts after → (all : List (List ℕ)) × Accepted share prices (line ∷ lines) group all after × (text ++ concat texts ≡ concat all)
-more share prices (Enter entry) lines group new after text texts done rest =
-    let (g, enters, pair) = made_ok (λ (h : Group). let nothing_written : List ℕ = [] in (nothing_written, h)) (after_entry entry group) (text, new) done in
+record More (share : Share) (prices : ℕ → Prices) (lines : List Line) (group after : Group) (output : List ℕ) : Type 0 where
+  texts : List (List ℕ)
+  calls : List Event
+  taken : Accepted share prices lines group texts calls after
+  writes : output ≡ concat texts
+
+more : (share : Share) (prices : ℕ → Prices) (line : Line) (lines : List Line) (group new after : Group) (text : List ℕ) (texts : List (List ℕ)) (calls : List Event) → done_by share prices line group ≡ Ok (text, new) → Accepted share prices lines new texts calls after → More share prices (line ∷ lines) group after (text ++ concat texts)
+more share prices (Enter entry) lines group new after text texts calls done rest =
+    let (g, enters, pair) = made_ok (λ (h : Group). let nothing : List ℕ = [] in (nothing, h)) (after_entry entry group) (text, new) done in
     let same : g ≡ new = ap (λ (p : List ℕ × Group). p.1) pair in
-    let none : [] ≡ text = ap (λ (p : List ℕ × Group). p.0) pair in
-    (texts, entered entry lines group new after texts (enters ∙ ap (λ h. Ok h) same) rest, ap (λ t. t ++ concat texts) (sym none))
-more share prices Issue lines group new after text texts done rest = (text ∷ texts, issued lines group new after text texts done rest, refl)
-more share prices Year lines group new after text texts done rest = (text ∷ texts, closed lines group new after text texts done rest, refl)
+    let written : [] ≡ text = ap (λ (p : List ℕ × Group). p.0) pair in
+    record {
+      texts = texts;
+      calls = calls ++ Entering entry (Ok tt) ∷ [];
+      taken = an_entry entry lines group new after texts calls (enters ∙ ap (λ h. Ok h) same) rest;
+      writes = ap (λ t. t ++ concat texts) (sym written);
+    }
+more share prices Issue lines group new after text texts calls done rest =
+    let (drawing, draws, further) = and_then_ok (drawn share prices 32 group) (λ (d : Stamp × List Bill). made (λ (i : List Bill × Group). (bills_text d.0.month i.0, i.1)) (issued share prices d.0 32 group)) (text, new) done in
+    let (issue, issues, pair) = made_ok (λ (i : List Bill × Group). (bills_text drawing.0.month i.0, i.1)) (issued share prices drawing.0 32 group) (text, new) further in
+    let same : issue.1 ≡ new = ap (λ (p : List ℕ × Group). p.1) pair in
+    let written : bills_text drawing.0.month issue.0 ≡ text = ap (λ (p : List ℕ × Group). p.0) pair in
+    record {
+      texts = bills_text drawing.0.month issue.0 ∷ texts;
+      calls = calls ++ Issuing drawing.0 32 (Ok issue.0) ∷ Drawing 32 (Ok drawing) ∷ [];
+      taken = an_issue drawing issue.0 lines group new after texts calls draws (issues ∙ ap (λ (g : Group). Ok (issue.0, g)) same) rest;
+      writes = ap (λ t. t ++ concat texts) (sym written);
+    }
+more share prices Year lines group new after text texts calls done rest =
+    let (december, ends, pair) = made_ok (λ (d : ℕ). (year_line d group.holder (year_figures (prices d) group), after_year prices d group)) (open_year group.phase) (text, new) done in
+    let figures = year_figures (prices december) group in
+    let same : after_year prices december group ≡ new = ap (λ (p : List ℕ × Group). p.1) pair in
+    let written : year_line december group.holder figures ≡ text = ap (λ (p : List ℕ × Group). p.0) pair in
+    record {
+      texts = year_line december group.holder figures ∷ texts;
+      calls = calls ++ Closing (Ok figures) ∷ [];
+      taken = a_closing december figures lines group new after texts calls (ended_in group.phase december ends)
+          (ap (made (λ d. (year_figures (prices d) group, after_year prices d group))) ends ∙ ap (λ (g : Group). Ok (figures, g)) same) rest;
+      writes = ap (λ t. t ++ concat texts) (sym written);
+    }
 
 -- the stop is told from the line before on
 stop_more : (first accepted all : ℕ) (fault : Option RunFault) → StopsBehind (first + 1) accepted all fault → StopsBehind first (suc accepted) (suc all) fault
@@ -34,13 +74,14 @@ stop_more first many all (Some fault) is = (omega (arith, is.0), omega (arith, i
 
 in_order_more : (share : Share) (prices : ℕ → Prices) (first : ℕ) (text_line : List ℕ) (rest : List (List ℕ)) (group new : Group) (text : List ℕ) (line : Line) (later : Ran) → LineRead text_line (Ok line) → done_by share prices line group ≡ Ok (text, new) → InOrder share prices (first + 1) rest new later → InOrder share prices first (text_line ∷ rest) group (after_text text later)
 in_order_more share prices first text_line rest group new text line later read done order =
-    let (all, taken, writes) = more share prices line order.accepted group new later.group text order.texts done order.taken in
+    let all = more share prices line order.accepted group new later.group text order.texts order.calls done order.taken in
     record {
       accepted = line ∷ order.accepted;
-      texts = all;
+      texts = all.texts;
+      calls = all.calls;
       read = (read, order.read);
-      taken = taken;
-      output = ap (λ t. text ++ t) order.output ∙ writes;
+      taken = all.taken;
+      output = ap (λ t. text ++ t) order.output ∙ all.writes;
       stop = stop_more first (length order.accepted) (length rest) later.fault order.stop;
     }
 
@@ -48,8 +89,9 @@ none_in_order : (share : Share) (prices : ℕ → Prices) (first : ℕ) (line : 
 none_in_order share prices first line lines group refusal = record {
   accepted = [];
   texts = [];
+  calls = [];
   read = tt;
-  taken = nothing group;
+  taken = none group;
   output = refl;
   stop = (omega arith, omega arith);
 }
@@ -66,7 +108,7 @@ goes_in_order share prices room first text_line rest reading group Rest (Err ref
 in_order : (share : Share) (prices : ℕ → Prices) (lines : List (List ℕ)) (room first : ℕ) (group : Group) (ran : Ran) → LinesRun share prices room first lines group ran → InOrder share prices first lines group ran
 in_order share prices [] room first group ran is =
     subst (λ (r : Ran). InOrder share prices first [] group r) (sym is)
-    (record { accepted = []; texts = []; read = tt; taken = nothing group; output = refl; stop = refl })
+    (record { accepted = []; texts = []; calls = []; read = tt; taken = none group; output = refl; stop = refl })
 in_order share prices (line ∷ lines) room first group ran (reading, read, goes) =
     goes_in_order share prices room first line lines reading group
     (λ text new later. LinesRun share prices (room - length text) (first + 1) lines new later)
@@ -74,7 +116,7 @@ in_order share prices (line ∷ lines) room first group ran (reading, read, goes
     (λ text new later. in_order share prices lines (room - length text) (first + 1) new later)
 
 pub output_in_order : OutputInOrder
-output_in_order share prices journal room group ran (no_journal none) = inl (record { fault = refl; text = refl; after = refl })
+output_in_order share prices journal room group ran (no_journal begins) = inl (record { fault = refl; text = refl; after = refl })
 output_in_order share prices journal room group ran (no_room body begins short) = inl (record { fault = refl; text = refl; after = refl })
 output_in_order share prices journal room group ran (runs body rest begins long lines) =
     inr (record { body = body; begins = begins; rest = rest; order = in_order share prices (lines_in body) _ _ group rest lines; names = refl })

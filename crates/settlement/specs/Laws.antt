@@ -1,28 +1,15 @@
 -- What holds of every run, by the lines alone.
-use Rattle.std.specs.Prelude.{◌≡◌, ℕ, ◌<◌, ◌+◌, ◌-◌, ◌≤◌, List, [], ◌∷◌, ◌++◌, length, take, None, Option, Some, Ok, IsSomeAnd, ◌⊎◌}
-use Rattle.std.specs.List.{AllZip, concat}
+use Rattle.std.specs.Prelude.{◌≡◌, ℕ, ◌<◌, ◌+◌, ◌-◌, ◌≤◌, List, [], ◌∷◌, ◌++◌, length, None, Option, Some, IsSomeAnd, ◌⊎◌}
+use Rattle.std.specs.List.{concat}
+use Rattle.balance.specs.Histories.{Event}
 use Rattle.group.specs.declared.group.Group.{Group}
-use Rattle.journal.specs.Lines.{LineRead}
-use Rattle.ledger.specs.declared.entry.Entry.{Entry}
 use Rattle.lines.specs.declared.line.Line.{Line}
-use Rattle.lines.specs.declared.line.Line.TheVariants.{Enter, Issue, Year}
 use Rattle.output.specs.Lines.{output_names}
-use Rattle.steps.specs.Entries.{after_entry}
 use Rattle.steps.specs.Months.{Prices, Share}
+use Rattle.settlement.specs.Accepting.{Accepted, ReadFirst}
 use Rattle.settlement.specs.Runs.{IsJournal, LinesRun, Ran, RunsOver, after_text}
-use Rattle.settlement.specs.Steps.{done_by}
 use Rattle.settlement.specs.Texts.{lines_in}
 use Rattle.settlement.specs.declared.fault.RunFault.{RunFault}
-
--- the book accepts these lines one after another: an entry writes nothing, an issue and a year closing write a text each
-pub data Accepted (share : Share) (prices : ℕ → Prices) : (lines : List Line) → (group : Group) → (texts : List (List ℕ)) → (after : Group) → Type 0 where
-  nothing : (group : Group) → Accepted share prices [] group [] group
-  entered : (entry : Entry) (lines : List Line) (group new after : Group) (texts : List (List ℕ)) → after_entry entry group ≡ Ok new
-      → Accepted share prices lines new texts after → Accepted share prices (Enter entry ∷ lines) group texts after
-  issued : (lines : List Line) (group new after : Group) (text : List ℕ) (texts : List (List ℕ)) → done_by share prices Issue group ≡ Ok (text, new)
-      → Accepted share prices lines new texts after → Accepted share prices (Issue ∷ lines) group (text ∷ texts) after
-  closed : (lines : List Line) (group new after : Group) (text : List ℕ) (texts : List (List ℕ)) → done_by share prices Year group ≡ Ok (text, new)
-      → Accepted share prices lines new texts after → Accepted share prices (Year ∷ lines) group (text ∷ texts) after
 
 -- of so many lines, which are counted from a number on, all are accepted; or the fault is at the one behind those accepted
 abbrev pub StopsBehind : (first accepted all : ℕ) → Option RunFault → Type 0
@@ -33,8 +20,9 @@ StopsBehind first accepted all (Some fault) = (fault.line ≡ first + accepted) 
 pub record InOrder (share : Share) (prices : ℕ → Prices) (first : ℕ) (lines : List (List ℕ)) (group : Group) (ran : Ran) : Type 0 where
   pub accepted : List Line
   pub texts : List (List ℕ)
-  pub read : AllZip (λ text line. LineRead text (Ok line)) (take (length accepted) lines) accepted
-  pub taken : Accepted share prices accepted group texts ran.group
+  pub calls : List Event
+  pub read : ReadFirst lines accepted
+  pub taken : Accepted share prices accepted group texts calls ran.group
   pub output : ran.text ≡ concat texts
   pub stop : StopsBehind first (length accepted) (length lines) ran.fault
 

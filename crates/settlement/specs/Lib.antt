@@ -1,3 +1,4 @@
+pub mod Accepting
 pub mod Faults
 pub mod Laws
 pub mod Leading

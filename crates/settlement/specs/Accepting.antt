@@ -1,0 +1,40 @@
+-- The lines of a journal that a book accepts, with what they write and the calls that they make.
+use Rattle.std.specs.Prelude.{◌≡◌, ℕ, List, [], ◌∷◌, ◌++◌, length, take, Ok}
+use Rattle.std.specs.List.{AllZip}
+use Rattle.balance.specs.Histories.{Closing, Drawing, Entering, Event, Issuing}
+use Rattle.group.specs.declared.group.Group.{Group}
+use Rattle.group.specs.declared.group.Phase.TheVariants.{YearEnd as AtYearEnd}
+use Rattle.journal.specs.Lines.{LineRead}
+use Rattle.ledger.specs.declared.bill.Bill.{Bill}
+use Rattle.ledger.specs.declared.bill.YearEnd.{YearEnd}
+use Rattle.ledger.specs.declared.entry.Entry.{Entry}
+use Rattle.lines.specs.declared.line.Line.{Line}
+use Rattle.lines.specs.declared.line.Line.TheVariants.{Enter, Issue, Year}
+use Rattle.output.specs.Lines.{year_line}
+use Rattle.steps.specs.Drafts.{Stamp, drawn, issued}
+use Rattle.steps.specs.Entries.{after_entry}
+use Rattle.steps.specs.Months.{Prices, Share}
+use Rattle.steps.specs.Years.{closed}
+use Rattle.settlement.specs.Texts.{bills_text}
+
+-- these lines are what the first of the texts say
+abbrev pub ReadFirst : List (List ℕ) → List Line → Type 0
+ReadFirst texts lines = AllZip (λ text line. LineRead text (Ok line)) (take (length lines) texts) lines
+
+-- the book accepts these lines one after another, which write these texts and make these calls, the latest first: an entry is
+-- entered and writes nothing; an issue draws and issues, and writes the bills of the issue; a year closing writes its figures
+pub data Accepted (share : Share) (prices : ℕ → Prices) : (lines : List Line) → (group : Group) → (texts : List (List ℕ)) → (calls : List Event) → (after : Group) → Type 0 where
+  none : (group : Group) → Accepted share prices [] group [] [] group
+  an_entry : (entry : Entry) (lines : List Line) (group new after : Group) (texts : List (List ℕ)) (calls : List Event)
+      → after_entry entry group ≡ Ok new → Accepted share prices lines new texts calls after
+      → Accepted share prices (Enter entry ∷ lines) group texts (calls ++ Entering entry (Ok tt) ∷ []) after
+  an_issue : (drawing : Stamp × List Bill) (bills : List Bill) (lines : List Line) (group new after : Group) (texts : List (List ℕ)) (calls : List Event)
+      → drawn share prices 32 group ≡ Ok drawing → issued share prices drawing.0 32 group ≡ Ok (bills, new)
+      → Accepted share prices lines new texts calls after
+      → Accepted share prices (Issue ∷ lines) group (bills_text drawing.0.month bills ∷ texts)
+      (calls ++ Issuing drawing.0 32 (Ok bills) ∷ Drawing 32 (Ok drawing) ∷ []) after
+  a_closing : (december : ℕ) (figures : YearEnd) (lines : List Line) (group new after : Group) (texts : List (List ℕ)) (calls : List Event)
+      → group.phase ≡ AtYearEnd december → closed prices group ≡ Ok (figures, new)
+      → Accepted share prices lines new texts calls after
+      → Accepted share prices (Year ∷ lines) group (year_line december group.holder figures ∷ texts)
+      (calls ++ Closing (Ok figures) ∷ []) after
