@@ -1,10 +1,11 @@
 -- Where the first byte that is a mark stands, or that none is.
-use Rattle.std.proofs.Common.{◌≡◌, ℕ, zero, suc, ◌+◌, ◌-◌, ◌<◌, ◌≤◌, List, [], ◌∷◌, length, get_or, eqb, Some, None, Option, MatchOption, sym, ap, ◌∙◌, ⊎_elim, arith, get_or-drop}
+use Rattle.std.proofs.Common.{◌≡◌, ℕ, zero, suc, ◌+◌, ◌-◌, ◌<◌, ◌≤◌, List, [], ◌∷◌, length, get_or, eqb, Some, None, Option, MatchOption, sym, ap, ◌∙◌, subst, ⊎_elim, arith, get_or-drop}
 use Rattle.std.specs.List.{position_from, slice_range}
 use Rattle.std.proofs.lemmas.List.{take_rest}
-use Rattle.std.proofs.lemmas.Bool.Decides.{eqb_tells}
+use Rattle.std.proofs.lemmas.Bool.Decides.{Decides-eqb, eqb_tells}
 use Rattle.fields.specs.Cuts.{Lacks}
 use Rattle.fields.specs.Marks.{Free, Next}
+use Rattle.memchr.specs.Find.{IsFirstByte, is_byte}
 
 -- the byte at j is the first that is the mark
 pub record FirstAt (mark : ℕ) (bs : List ℕ) (j : ℕ) : Type 0 where
@@ -37,6 +38,25 @@ first_from mark low (b ∷ bs) =
     (λ yes. rw yes.0 (0, (omega arith, record { within = omega arith; is = yes.1; before = λ k h is. omega arith })))
     (λ no. rw no.0 (first_after mark low b bs _ no.1 (first_from mark (low + 1) bs)))
     (eqb_tells b mark)
+
+-- so does a search by a test
+pub first_byte : (mark : ℕ) (bs : List ℕ) (r : Option ℕ) → IsFirstByte (is_byte mark) bs r → First mark 0 bs r
+first_byte mark bs None none = λ k h is. none k (omega arith) h ((Decides-eqb (get_or bs k 0) mark).1 is)
+first_byte mark bs (Some i) found = (
+  i,
+  (
+    omega arith,
+    record {
+      within = found.0.high;
+      is = (Decides-eqb (get_or bs i 0) mark).0 found.1;
+      before = λ k h is. found.0.before k (omega arith) h ((Decides-eqb (get_or bs k 0) mark).1 is);
+    },
+  ),
+)
+
+-- of all the bytes, the place is that of the first
+pub at_start : (mark : ℕ) (bs : List ℕ) (i : ℕ) → First mark 0 bs (Some i) → FirstAt mark bs i
+at_start mark bs i (j, found) = let alike : j ≡ i = omega (arith, found.0) in subst (FirstAt mark bs) alike found.1
 
 -- what is so of the bytes from a place on
 module _ (mark low : ℕ) (bs rest : List ℕ) (is : rest ≡ slice_range bs low (length bs)) (long : length rest + low ≡ length bs) where
