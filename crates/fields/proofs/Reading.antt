@@ -1,18 +1,15 @@
--- What reading and printing tell of the number that a text spells.
-use Rattle.std.proofs.Common.{◌≡◌, ℕ, ◌^◌, ◌<◌, Bool, true, false, List, length, get_or, Ok, Err, Some, None, decimal, Result, MatchResult, sym, refl, ap, ◌∙◌, subst, ⊎_elim, arith}
+-- What the digits of a text tell of the number that it spells.
+use Rattle.std.proofs.Common.{◌≡◌, ℕ, ◌+◌, ◌-◌, ◌*◌, ◌^◌, ◌<◌, ◌≤◌, List, [], ◌∷◌, length, drop, get_or, Some, None, decimal, Option, sym, ap, ◌∙◌, subst, ⊎_elim, arith}
 use Rattle.fields.specs.Digits.{Spelled}
-use Rattle.std.proofs.lemmas.Bool.Decides.{Decides-eqb}
-use Rattle.std.proofs.lemmas.Fmt.{IsAscii-decimal, decimal_digit, decimal_injective, first_decimal, parse-decimal}
+use Rattle.std.proofs.lemmas.Fmt.{decimal-digits_value, decimal_digit, decimal_injective, decimal_nonempty, digits_decimal, digits_value-decimal, first_decimal}
 use Rattle.std.proofs.lemmas.Bool.{cases_lt}
-use Rattle.std.proofs.lemmas.Slice.Eq.{slice_eq-Decides}
-use Rattle.std.proofs.lemmas.Str.{IsUtf8-from_ascii}
-use Rattle.std.proofs.lemmas.Str.Parse.{IsNumeralModel, numerals_by_value, tells_digits}
-use Rattle.std.specs.Bool.{Decides, then_some}
-use Rattle.std.specs.Cmp.Lexicographic.{pointwise}
-use Rattle.std.specs.Result.{result_ok}
-use Rattle.std.specs.Str.{IsUtf8}
-use Rattle.std.specs.Str.Parse.{AllDigits, ParsesUnsigned, digits_value}
-use Rattle.std.proofs.Math.Dec.{eqb}
+use Rattle.std.proofs.lemmas.List.{at_drop_more, drop_all}
+use Rattle.std.proofs.lemmas.Str.{digit_value_digit}
+use Rattle.std.proofs.lemmas.Str.Parse.{IsNumeralModel, digit_at, numerals_by_value, tells_digits}
+use Rattle.std.specs.Char.{digit_value}
+use Rattle.std.specs.Int.{IsInRange}
+use Rattle.std.specs.Option.{SomeIff}
+use Rattle.std.specs.Str.Parse.{AllDigits, digits_value, digits_value_after}
 
 pub own : IsNumeralModel (AllDigits 10) (digits_value 10)
 own = numerals_by_value _ tells_digits
@@ -25,40 +22,47 @@ zero_alone x h first =
     (λ none. let zero : x ≡ 0 = omega arith in ap (λ n. length (decimal n)) zero ∙ ap length (decimal_digit 0 (omega arith)))
     (cases_lt 0 x)
 
--- where a result is no Ok, what its error says holds
-failed : {T E : Type 0} (P : T → Type 0) (Q : E → Type 0) (r : Result T E) → None ≡ result_ok r → MatchResult r P Q → (e : E) × Q e
-failed P Q (Ok x) none told = let z : ◌≡◌ {A = ℕ} 0 1 = cc in absurd (omega arith)
-failed P Q (Err e) none told = (e, told)
+-- no text is empty
+pub no_empty : (bs : List ℕ) → length bs ≡ 0 → Spelled bs None
+no_empty bs none x h e = omega (arith, ap length e, decimal_nonempty x h)
 
--- and where it is Ok, what it says of its value
-pub succeeded : {T E : Type 0} (P : T → Type 0) (Q : E → Type 0) (r : Result T E) (x : T) → Some x ≡ result_ok r → MatchResult r P Q → P x
-succeeded P Q (Ok y) x is told = let same : y ≡ x = cc in subst P same told
-succeeded P Q (Err e) x is told = let z : ◌≡◌ {A = ℕ} 0 1 = cc in absurd (omega arith)
+-- and none of several digits begins with a zero
+pub no_zero : (bs : List ℕ) → 2 ≤ length bs → get_or bs 0 0 ≡ 48 → Spelled bs None
+no_zero bs more zero x h e = omega (arith, ap length e, zero_alone x h (ap (λ l. get_or l 0 0) (sym e) ∙ zero))
 
-module _ (bs : List ℕ) where
-  -- bytes that are no text spell no number
-  pub no_text : {T E : Type 0} (P : T → Type 0) (Q : E → Type 0) (r : Result T E) → None ≡ result_ok r → MatchResult r P (λ e. ¬ (IsUtf8 bs) × Q e) → Spelled bs None
-  no_text P Q r none told x h e =
-      (failed P (λ e. ¬ (IsUtf8 bs) × Q e) r none told).1.0 (subst IsUtf8 (sym e) (IsUtf8-from_ascii (decimal x) (IsAscii-decimal x h)))
+-- digits with no needless zero spell the number that they write
+pub by_digits : (bs : List ℕ) (r : Option ℕ) → 0 < length bs → (get_or bs 0 0 ≡ 48 → length bs ≡ 1) → SomeIff r (AllDigits 10 bs × (digits_value 10 bs < 2 ^ 64)) (digits_value 10 bs) → Spelled bs r
+by_digits bs None some lead none = λ x h e.
+    none (subst (λ l. AllDigits 10 l × (digits_value 10 l < 2 ^ 64)) (sym e) (digits_decimal own x h, omega (arith, digits_value-decimal own x h)))
+by_digits bs (Some n) some lead told =
+    let e : bs ≡ decimal n = sym (ap decimal told.1 ∙ decimal-digits_value own bs told.0.0 some lead told.0.1) in
+    (e, λ x h too. decimal_injective x n h (omega (arith, told.1, told.0.1)) (sym too ∙ e))
 
-  -- nor does a text that is read as none
-  pub unread : {E : Type 0} (r : Result ℕ E) → None ≡ result_ok r → ParsesUnsigned 64 10 bs r → Spelled bs None
-  unread r none told x h e =
-      let read : r ≡ Ok x = parse-decimal 64 x bs r h h e told in
-      let z : ◌≡◌ {A = ℕ} 0 1 = cc in
-      omega arith
+-- how far the digits are read: those before i write n, and the rest decides whether all are digits
+pub record ReadSoFar (ds : List ℕ) (i n : ℕ) : Type 0 where
+  pub rest : AllDigits 10 (drop i ds) → AllDigits 10 ds
+  pub same : digits_value_after 10 n (drop i ds) ≡ digits_value 10 ds
+  pub fits : n < 2 ^ 64
 
-  -- a number that is read is spelled exactly where it is printed as the text
-  pub printed : {E : Type 0} (r : Result ℕ E) (value : ℕ) (same : Bool) → value < 2 ^ 64 → Some value ≡ result_ok r → ParsesUnsigned 64 10 bs r → Decides same (decimal value ≡ bs) → Spelled bs (then_some same value)
-  printed r value true small is told same =
-      let e = same.0 refl in (sym e, λ x h too. decimal_injective x value h small (sym too ∙ sym e))
-  printed r value false small is told same = λ x h e.
-      let read : r ≡ Ok x = parse-decimal 64 x bs r h h e told in
-      let alike : Some value ≡ Some x = is ∙ ap result_ok read in
-      let number : value ≡ x = cc in
-      let z : ◌≡◌ {A = ℕ} 0 1 = let clash : false ≡ true = same.1 (ap decimal number ∙ sym e) in cc in
-      omega arith
+at_least : (n : ℕ) (ds : List ℕ) → n ≤ digits_value_after 10 n ds
+at_least n [] = omega arith
+at_least n (c ∷ cs) = omega (arith, at_least (n * 10 + digit_value c) cs)
 
--- texts are compared byte by byte
-pub same_text : (xs ys : List ℕ) (same : Bool) → same ≡ pointwise eqb xs ys → Decides same (xs ≡ ys)
-same_text xs ys same e = slice_eq-Decides Decides-eqb xs ys same e
+module _ (ds : List ℕ) (i n : ℕ) (so_far : ReadSoFar ds i n) (within : i < length ds) where
+  value_more : IsInRange 48 57 (get_or ds i 0) → digits_value_after 10 (n * 10 + (get_or ds i 0 - 48)) (drop (i + 1) ds) ≡ digits_value 10 ds
+  value_more digit =
+      let value : get_or ds i 0 - 48 ≡ digit_value (get_or ds i 0) = omega (arith, digit_value_digit (get_or ds i 0) digit) in
+      ap (λ d. digits_value_after 10 (n * 10 + d) (drop (i + 1) ds)) value ∙ sym (at_drop_more (digits_value_after 10 n) ds i 0 within) ∙ so_far.same
+
+  -- a byte that cannot follow leaves no number of 64 bits
+  pub read_none : (IsInRange 48 57 (get_or ds i 0) × (n * 10 + (get_or ds i 0 - 48) < 2 ^ 64) → ⊥) → AllDigits 10 ds × (digits_value 10 ds < 2 ^ 64) → ⊥
+  read_none none told =
+      let digit = digit_at ds i told.0 within in
+      none (digit, omega (arith, told.1, value_more digit, at_least (n * 10 + (get_or ds i 0 - 48)) (drop (i + 1) ds)))
+
+-- what is read to the end
+pub read_all : (ds : List ℕ) (i n : ℕ) → ReadSoFar ds i n → length ds ≤ i → SomeIff (Some n) (AllDigits 10 ds × (digits_value 10 ds < 2 ^ 64)) (digits_value 10 ds)
+read_all ds i n so_far end =
+    let none = drop_all i ds end in
+    let value : n ≡ digits_value 10 ds = sym (ap (digits_value_after 10 n) none) ∙ so_far.same in
+    ((so_far.rest (subst (AllDigits 10) (sym none) tt), omega (arith, value, so_far.fits)), value)

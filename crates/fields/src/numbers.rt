@@ -1,16 +1,20 @@
 //! Reads the numbers of a text.
-ghost use Rattle.std.specs.Prelude.{◌^◌, ◌<◌, ◌≤◌, ◌↔◌, decimal, IsTrue, unsigned_abs};
+ghost use Rattle.std.specs.Prelude.{◌+◌, ◌-◌, ◌*◌, ◌^◌, ◌<◌, ◌≤◌, ◌↔◌, decimal, IsTrue, unsigned_abs};
 ghost use Rattle.fields.specs.Digits.{BelowZero, Digit, Spelled};
 ghost use Rattle.fields.specs.Reads.{Reads};
 ghost use Rattle.std.specs.Fmt.{signed_decimal};
+ghost use Rattle.std.specs.Int.{IsInRange};
+ghost use Rattle.std.specs.Option.{SomeIff};
+ghost use Rattle.std.specs.Str.Parse.{AllDigits, digits_value};
 
 use crate::marks::HYPHEN;
-use itoa::Buffer;
 
 /// The digit 0.
 pub const ZERO: u8 = b'0';
 
 pub(crate) const NINE: u8 = b'9';
+
+const TEN: u64 = 10;
 
 // Functions and no `TryFrom`: a number is read within a limit that its caller gives.
 
@@ -43,13 +47,33 @@ fn below_zero(value: u64) -> Option<i64>
     (value > 0).then(|| -(value as i64))
 }
 
-// The number of 64 bits that the part spells, which is printed as the part.
+// The number of 64 bits that the part spells: its digits, of which the first is a 0 only where it stands alone.
 fn spelled(part: &[u8]) -> Option<u64>
     ensures { Spelled part.now result }
 {
-    let value = str::from_utf8(part).ok()?.parse::<u64>().ok()?;
-    // A plus or a zero in front is read as well, but never printed.
-    (Buffer::new().format(value).as_bytes() == part).then_some(value)
+    match part {
+        [] | [ZERO, _, ..] => None,
+        digits => value_of(digits),
+    }
+}
+
+// The number of 64 bits that the bytes write, where all are digits.
+fn value_of(digits: &[u8]) -> Option<u64>
+    ensures { SomeIff result (AllDigits 10 digits.now × (digits_value 10 digits.now < 2 ^ 64)) (digits_value 10 digits.now) }
+{
+    let mut value: u64 = 0;
+    for byte in digits {
+        value = followed(value, *byte)?;
+    }
+    Some(value)
+}
+
+// The number of 64 bits that the digits of `front` write with the byte behind them, where it is a digit.
+fn followed(front: u64, byte: u8) -> Option<u64>
+    ensures { SomeIff result (IsInRange 48 57 byte × (front * 10 + (byte - 48) < 2 ^ 64)) (front * 10 + (byte - 48)) }
+{
+    let ones = digit(byte)?;
+    front.checked_mul(TEN)?.checked_add(ones as u64)
 }
 
 // The value of a digit.
