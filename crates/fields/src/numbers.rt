@@ -25,7 +25,7 @@ pub fn number(part: &[u8], most: u64) -> Option<u64>
     spelled(part).filter(|value| *value <= most)
 }
 
-// A minus and then a number: a reader of its own by `parse` would be a twin of `spelled`.
+// A minus and then a number: a reader of its own would be a twin of `spelled`.
 /// The number that `part` spells likewise, after a minus where it is below 0, if it is within `most` either way.
 pub fn signed_number(part: &[u8], most: u32) -> Option<i64>
     ensures { Reads (λ z. unsigned_abs z ≤ most) signed_decimal part.now result }
