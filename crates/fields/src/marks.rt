@@ -1,7 +1,7 @@
 //! Finds the commas and the line feeds of a text.
 ghost use Rattle.std.specs.Prelude.{◌≡◌, ◌==◌, ◌<◌, length};
 ghost use Rattle.fields.specs.Cuts.{Around, Cuts};
-ghost use Rattle.fields.specs.Marks.{NextLineFeed};
+ghost use Rattle.fields.specs.Marks.{Next, NextLineFeed};
 ghost use Rattle.std.specs.List.{position_from};
 
 use memchr::memchr;
@@ -36,9 +36,7 @@ pub fn line(text: &[u8]) -> Option<(&[u8], &[u8])>
 pub fn next_line_feed(text: &[u8], from: usize) -> Option<usize>
     ensures { NextLineFeed text.now from result }
 {
-    let rest = text.get(from..)?;
-    let ahead = memchr(LINE_FEED, rest)?;
-    Some(from + ahead)
+    next(text, from, LINE_FEED)
 }
 
 // The text before the byte at `i` and the text after it.
@@ -47,6 +45,15 @@ fn around(text: &[u8], i: usize) -> (&[u8], &[u8])
     ensures { Around text.now i result }
 {
     (&text[..i], &text[i + 1..])
+}
+
+// The index of the first byte at or after `from` that is the mark.
+fn next(text: &[u8], from: usize, mark: u8) -> Option<usize>
+    ensures { Next mark text.now from result }
+{
+    let rest = text.get(from..)?;
+    let ahead = memchr(mark, rest)?;
+    Some(from + ahead)
 }
 
 // The index of the first comma. Its bytes are tested one by one: a field is short, and `memchr` takes longer to start.
