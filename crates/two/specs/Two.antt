@@ -23,7 +23,7 @@ use Rattle.tariff.specs.declared.service.Service.{Service}
 use Rattle.tariff.specs.declared.service.Service.TheVariants.{Distribution, Energy, YearEnd}
 
 -- every register opens at 0
-abbrev pub at_0 : ByZone (ByFlow ℕ)
+abbrev at_0 : ByZone (ByFlow ℕ)
 at_0 = record { day = record { consumed = 0; delivered = 0 }; night = record { consumed = 0; delivered = 0 } }
 
 -- the member at place 0, with 100 kW
