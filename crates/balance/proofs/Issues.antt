@@ -29,7 +29,7 @@ nothing_left : {A B : Type 0} (f : B → ℤ) (g : ℕ → A → B) → ((place 
 nothing_left f g none first [] = refl
 nothing_left f g none first (x ∷ xs) = let rest = nothing_left f g none (first + 1) xs in omega (arith, ints, rest, none first x)
 
-carried_is : (share : Share) (zone : Zone) (group : Group) → in_zone (each_zone (λ z. carried_in share z group)) zone ≡ carried_in share zone group
+pub carried_is : (share : Share) (zone : Zone) (group : Group) → in_zone (each_zone (λ z. carried_in share z group)) zone ≡ carried_in share zone group
 carried_is share Day group = refl
 carried_is share Night group = refl
 

@@ -15,10 +15,10 @@ use Rattle.group.specs.declared.refusal.BookRefusal.TheVariants as refused
 use Rattle.steps.specs.Books.{SameTerms, BookState, unopened}
 use Rattle.steps.specs.Drafts.{Stamp, after_month, drawable, is_current, issued}
 use Rattle.steps.specs.Entries.{open_month, place_of, recorded}
-use Rattle.steps.specs.Months.{Keeps, Prices, Share, billed_in, carried_in, each_zone, lines_of}
+use Rattle.steps.specs.Months.{Keeps, Prices, Share, billed_in, carried_in, lines_of}
 use Rattle.steps.specs.Years.{after_year, open_year, year_figures}
 use Rattle.balance.proofs.Entries.{entry_kept}
-use Rattle.balance.proofs.Issues.{issue_kept}
+use Rattle.balance.proofs.Issues.{carried_is, issue_kept}
 use Rattle.balance.proofs.Kept.{Kept, MonthKept}
 use Rattle.balance.proofs.Nets.{lines_billed, zone_not_both}
 use Rattle.balance.proofs.Openings.{opening_kept}
@@ -102,10 +102,6 @@ blank_kept prices = record {
 led_kept : (share : Share) → Keeps share → (prices : ℕ → Prices) (history : List Event) (group : Group) → Leads share prices history group → Kept prices (postings history) group
 led_kept share keeps prices [] group is = subst (λ g. Kept prices [] g) (sym is) (blank_kept prices)
 led_kept share keeps prices (event ∷ history) group (before, leads, happens) = happens_kept share keeps prices (postings history) before event group (led_kept share keeps prices history before leads) happens
-
-carried_is : (share : Share) (zone : Zone) (group : Group) → in_zone (each_zone (λ z. carried_in share z group)) zone ≡ carried_in share zone group
-carried_is share Day group = refl
-carried_is share Night group = refl
 
 issue_not_both : (share : Share) → Keeps share → (prices : ℕ → Prices) (stamp : Stamp) (places : ℕ) (old new : Group) (lines : List Bill) → issued share prices stamp places old ≡ Ok (lines, new) → (zone : Zone) → (billed_by zone lines ≡ 0) ⊎ (in_zone new.carried zone ≡ 0)
 issue_not_both share keeps prices stamp places old new lines is zone =

@@ -16,11 +16,11 @@ use Rattle.balance.specs.Histories.{Happens, Event, Leads, Issuing}
 use Rattle.balance.specs.Postings.{Posting, billed, billed_by, entered_in, open_in, owed, paid_in, postings}
 
 -- the net delivery of entries: what is delivered less what is consumed
-abbrev pub delivery_in : Zone → List Posting → ℤ
+abbrev delivery_in : Zone → List Posting → ℤ
 delivery_in zone posts = entered_in zone Delivered posts -ℤ entered_in zone Consumed posts
 
 -- that of the entries since the last issue
-abbrev pub open_delivery_in : Zone → List Posting → ℤ
+abbrev open_delivery_in : Zone → List Posting → ℤ
 open_delivery_in zone posts = open_in zone Delivered posts -ℤ open_in zone Consumed posts
 
 -- no kWh is lost or invented: what was delivered less what was consumed is what is carried and was paid at year ends,

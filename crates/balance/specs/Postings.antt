@@ -66,7 +66,7 @@ abbrev pub same_register : MemberRegister → MemberRegister → Bool
 same_register a b = a.place == b.place && (same_zone a.zone b.zone && same_flow a.flow b.flow)
 
 -- the opening value of a register
-abbrev pub opening_value : List OpeningRecord → MemberRegister → ℕ
+abbrev opening_value : List OpeningRecord → MemberRegister → ℕ
 opening_value records at = option_map_or (standing_at at) (slice_get records at.place) 0
 
 -- the value that the latest accepted reading or change of a register left, or its opening value

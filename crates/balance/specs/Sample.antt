@@ -39,22 +39,22 @@ sample_prices month (service.YearEnd Day) class = 1990 + month
 sample_prices month (service.YearEnd Night) class = 1500
 
 -- a record whose registers stand at one value each by zone
-abbrev pub standing : (capacity : ℕ) → Class → (day night : ℕ) → OpeningRecord
+abbrev standing : (capacity : ℕ) → Class → (day night : ℕ) → OpeningRecord
 standing capacity class day night = opening_record capacity class (record {
   day = record { consumed = day; delivered = day };
   night = record { consumed = night; delivered = night };
 })
 
 -- a producer, which is the holder, and a household
-abbrev pub members : List OpeningRecord
+abbrev members : List OpeningRecord
 members = standing 100 Other 50 0 ∷ standing 0 Household 20 7 ∷ []
 
 -- a register of a member
-abbrev pub register : (place : ℕ) → Zone → Flow → MemberRegister
+abbrev register : (place : ℕ) → Zone → Flow → MemberRegister
 register place zone flow = record { place = place; zone = zone; flow = flow }
 
 -- a draft of group 7 in a month with so many entries
-abbrev pub stamp : (month entries : ℕ) → Stamp
+abbrev stamp : (month entries : ℕ) → Stamp
 stamp month entries = record { number = 7; month = month; entries = entries }
 
 -- the calls of November 2000: the opening, an entry of each kind, a reading below its register, a drawing, a check and an issue
@@ -84,15 +84,15 @@ december =
     ∷ []
 
 -- the line of a member
-abbrev pub line : (billed covered : ByZone ℕ) → (drams debt : ℤ) → Bill
+abbrev line : (billed covered : ByZone ℕ) → (drams debt : ℤ) → Bill
 line billed covered drams debt = record { billed = billed; covered = covered; drams = drams; debt = debt }
 
 -- so many kWh in each zone
-abbrev pub kwh : (day night : ℕ) → ByZone ℕ
+abbrev kwh : (day night : ℕ) → ByZone ℕ
 kwh day night = record { day = day; night = night }
 
 -- the line of who is billed nothing
-abbrev pub nothing : Bill
+abbrev nothing : Bill
 nothing = line (kwh 0 0) (kwh 0 0) (pos 0) (pos 0)
 
 -- the household's November, with so many kWh covered by day and billed by night: of 510 kWh by day 510 are covered by 900, and 33 by night are billed;
@@ -106,11 +106,11 @@ abbrev pub in_december : (billed : ℕ) → Bill
 in_december billed = line (kwh billed 10) (kwh 200 0) (pos 2361) (pos 7618)
 
 -- the holder is paid 190 × 20.01 drams, which are 3,801.90: the debt goes down by 3,802, and 10 hundredths are kept
-abbrev pub paid_out : YearEnd
+abbrev paid_out : YearEnd
 paid_out = record { paid = kwh 190 0; drams = negsuc 3801; debt = negsuc 3801 }
 
 -- the history of November, its latest call first, by the household's line
-abbrev pub told_of_november : Bill → List Event
+abbrev told_of_november : Bill → List Event
 told_of_november household =
     Issuing (stamp 10 5) 2 (Ok (nothing ∷ household ∷ []))
     ∷ Checking (stamp 10 5) true
@@ -125,7 +125,7 @@ told_of_november household =
     ∷ []
 
 -- the history up to the issue of December, by the household's line of each month
-abbrev pub told_of_december : (november december : Bill) → List Event
+abbrev told_of_december : (november december : Bill) → List Event
 told_of_december earlier later =
     Issuing (stamp 11 2) 2 (Ok (nothing ∷ later ∷ []))
     ∷ Issuing (stamp 10 5) 2 (Err Draft)
@@ -138,7 +138,7 @@ abbrev pub told : (november december : Bill) → List Event
 told earlier later = Closing (Ok paid_out) ∷ Withdrawing (stamp 10 5) ∷ told_of_december earlier later
 
 -- the group after the issue of December
-abbrev pub issued_group : Group
+abbrev issued_group : Group
 issued_group = (run line_order sample_prices (november ++ take 4 december)).1
 
 -- the group at the end
@@ -146,7 +146,7 @@ abbrev pub closed_group : Group
 closed_group = (run line_order sample_prices (november ++ december)).1
 
 -- a member's debt and fraction as the book tells them
-abbrev pub account_at : (place : ℕ) → Group → Result Account BookRefusal
+abbrev account_at : (place : ℕ) → Group → Result Account BookRefusal
 account_at place group = made (λ member. member.account) (member_at place group)
 
 -- the calls have just this history and leave just these figures, and it balances throughout.

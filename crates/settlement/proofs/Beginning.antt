@@ -5,22 +5,21 @@ use Rattle.std.proofs.lemmas.Bool.Decides.{nat_tests}
 use Rattle.cells.proofs.Overwriting.{put_more}
 use Rattle.cells.specs.Cells.{Put}
 use Rattle.group.specs.declared.group.Group.{Group}
-use Rattle.lines.specs.declared.line.Line.TheVariants.{Issue}
 use Rattle.output.specs.Lines.{output_names}
 use Rattle.steps.specs.Months.{Prices, Share}
 use Rattle.settlement.proofs.Billing.{put_none}
 use Rattle.settlement.specs.Runs.{Begun, BodyDone, IsJournal, JournalDone, LinesRun, after_text, no_journal, no_room, runs, stopped}
-use Rattle.settlement.specs.Steps.{room_checked}
-use Rattle.settlement.specs.Texts.{lines_in}
+use Rattle.settlement.specs.Steps.{output_room, room_checked}
+use Rattle.settlement.specs.Texts.{text_lines}
 use Rattle.settlement.specs.declared.fault.RunRefusal.{RunRefusal}
 use Rattle.settlement.specs.declared.fault.RunRefusal.TheVariants as refused
 use Rattle.settlement.specs.declared.run.Outcome.{Outcome}
 
-too_short : (room : ℕ) (refusal : RunRefusal) → room_checked room Issue ≡ Err refusal → room < 4096
+too_short : (room : ℕ) (refusal : RunRefusal) → room_checked room output_room ≡ Err refusal → room < 4096
 too_short room refusal is = grind (arith, nat_tests)
 
 -- the output is too short
-pub no_room_begun : (journal old body : List ℕ) (r : Result (Bor (List ℕ) × ℕ) RunRefusal) → IsJournal journal body → (refusal : RunRefusal) → room_checked (length old) Issue ≡ Err refusal → r ≡ Err refused.Room → Begun journal old r old
+pub no_room_begun : (journal old body : List ℕ) (r : Result (Bor (List ℕ) × ℕ) RunRefusal) → IsJournal journal body → (refusal : RunRefusal) → room_checked (length old) output_room ≡ Err refusal → r ≡ Err refused.Room → Begun journal old r old
 no_room_begun journal old body r begins refusal checked is =
     subst (λ answer. Begun journal old answer old) (sym is) (body, begins, too_short (length old) refusal checked, refl)
 
@@ -38,6 +37,6 @@ pub goes_on_after_1 : (share : Share) (prices : ℕ → Prices) (journal old mid
 goes_on_after_1 share prices journal old mid new body at group after answer begins room names wide (ran, lines, (fault, put, same)) =
     let left : length mid - at ≡ length old - length output_names = omega (arith, names.stop, wide) in (
       after_text output_names ran,
-      runs body ran begins room (subst (λ n. LinesRun share prices n 2 (lines_in body) group ran) left lines),
+      runs body ran begins room (subst (λ n. LinesRun share prices n 2 (text_lines body) group ran) left lines),
       (fault, put_more names put (omega arith), same),
     )

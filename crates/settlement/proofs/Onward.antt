@@ -9,7 +9,7 @@ use Rattle.steps.specs.Months.{Prices, Share}
 use Rattle.settlement.specs.Laws.{JournalsGoOn, RunsGoOn, RunsStop, WholeLines}
 use Rattle.settlement.specs.Runs.{GoesOn, LinesRun, Ran, after_text, no_journal, no_room, runs}
 use Rattle.settlement.specs.Steps.{after_reading}
-use Rattle.settlement.specs.Texts.{lines_in, onto_first}
+use Rattle.settlement.specs.Texts.{text_lines, onto_first}
 use Rattle.settlement.specs.declared.fault.RunFault.{RunFault}
 use Rattle.settlement.specs.declared.fault.RunRefusal.{RunRefusal}
 
@@ -74,35 +74,35 @@ some_on_first byte [] = omega arith
 some_on_first byte (line ∷ lines) = omega arith
 
 -- a text has a line
-some_lines : (text : List ℕ) → 0 < length text → 0 < length (lines_in text)
+some_lines : (text : List ℕ) → 0 < length text → 0 < length (text_lines text)
 some_lines [] some = absurd (omega arith)
 some_lines (byte ∷ text) some =
-    ⊎_elim (λ yes. rw yes.0 (omega arith)) (λ no. rw no.0 (some_on_first byte (lines_in text))) (eqb_tells byte 10)
+    ⊎_elim (λ yes. rw yes.0 (omega arith)) (λ no. rw no.0 (some_on_first byte (text_lines text))) (eqb_tells byte 10)
 
 onto_more : (byte : ℕ) (lines more : List (List ℕ)) → 0 < length lines → onto_first byte (lines ++ more) ≡ onto_first byte lines ++ more
 onto_more byte [] more some = absurd (omega arith)
 onto_more byte (line ∷ lines) more some = refl
 
 -- the lines of whole lines and of a text behind them are the lines of both
-lines_more : (front more : List ℕ) → lines_in ((front ++ 10 ∷ []) ++ more) ≡ lines_in (front ++ 10 ∷ []) ++ lines_in more
+lines_more : (front more : List ℕ) → text_lines ((front ++ 10 ∷ []) ++ more) ≡ text_lines (front ++ 10 ∷ []) ++ text_lines more
 lines_more [] more = refl
 lines_more (byte ∷ front) more =
     ⊎_elim
     (λ yes. rw yes.0 (ap (λ ls. (byte ∷ []) ∷ ls) (lines_more front more)))
-    (λ no. rw no.0 (ap (onto_first byte) (lines_more front more) ∙ onto_more byte (lines_in (front ++ 10 ∷ [])) (lines_in more) (some_lines (front ++ 10 ∷ []) (omega (arith, length-append front (10 ∷ []))))))
+    (λ no. rw no.0 (ap (onto_first byte) (lines_more front more) ∙ onto_more byte (text_lines (front ++ 10 ∷ [])) (text_lines more) (some_lines (front ++ 10 ∷ []) (omega (arith, length-append front (10 ∷ []))))))
     (eqb_tells byte 10)
 
 -- the line of names is one line
-names_first : (body : List ℕ) → lines_in (journal_names ++ body) ≡ journal_names ∷ lines_in body
+names_first : (body : List ℕ) → text_lines (journal_names ++ body) ≡ journal_names ∷ text_lines body
 names_first body = refl
 
 -- so are those of a body
-body_more : (journal body more : List ℕ) → WholeLines journal → journal ≡ journal_names ++ body → lines_in (body ++ more) ≡ lines_in body ++ lines_in more
+body_more : (journal body more : List ℕ) → WholeLines journal → journal ≡ journal_names ++ body → text_lines (body ++ more) ≡ text_lines body ++ text_lines more
 body_more journal body more (front, whole) begins =
-    let joined : lines_in (journal ++ more) ≡ lines_in journal ++ lines_in more =
-    ap (λ j. lines_in (j ++ more)) whole ∙ (lines_more front more ∙ ap (λ j. lines_in j ++ lines_in more) (sym whole)) in
-    let named : lines_in ((journal_names ++ body) ++ more) ≡ lines_in (journal_names ++ body) ++ lines_in more =
-    subst (λ j. lines_in (j ++ more) ≡ lines_in j ++ lines_in more) begins joined in
+    let joined : text_lines (journal ++ more) ≡ text_lines journal ++ text_lines more =
+    ap (λ j. text_lines (j ++ more)) whole ∙ (lines_more front more ∙ ap (λ j. text_lines j ++ text_lines more) (sym whole)) in
+    let named : text_lines ((journal_names ++ body) ++ more) ≡ text_lines (journal_names ++ body) ++ text_lines more =
+    subst (λ j. text_lines (j ++ more) ≡ text_lines j ++ text_lines more) begins joined in
     ap (drop 1) named
 
 pub journals_go_on : JournalsGoOn
@@ -114,10 +114,10 @@ journals_go_on share prices room journal more group ran later whole short (no_ro
     absurd cc
 journals_go_on share prices room journal more group ran later whole short (runs body first begins long lines) ends on =
     let left : room - length (output_names ++ first.text) ≡ (room - length output_names) - length first.text = omega (arith, length-append output_names first.text) in
-    let counted : length (lines_in journal) + 1 ≡ 2 + length (lines_in body) = omega (arith, ap (λ j. length (lines_in j)) begins.1) in
-    let from_there = subst (λ n. LinesRun share prices n (length (lines_in journal) + 1) (lines_in more) first.group later) left on in
-    let numbered = subst (λ n. LinesRun share prices ((room - length output_names) - length first.text) n (lines_in more) first.group later) counted from_there in
-    let both = go_on share prices (lines_in body) (lines_in more) (room - length output_names) 2 group first later lines ends numbered in
+    let counted : length (text_lines journal) + 1 ≡ 2 + length (text_lines body) = omega (arith, ap (λ j. length (text_lines j)) begins.1) in
+    let from_there = subst (λ n. LinesRun share prices n (length (text_lines journal) + 1) (text_lines more) first.group later) left on in
+    let numbered = subst (λ n. LinesRun share prices ((room - length output_names) - length first.text) n (text_lines more) first.group later) counted from_there in
+    let both = go_on share prices (text_lines body) (text_lines more) (room - length output_names) 2 group first later lines ends numbered in
     let body_lines = sym (body_more journal body more whole begins.1) in
     runs (body ++ more) (after_text first.text later) (short, ap (λ j. j ++ more) begins.1 ∙ append_assoc journal_names body more) long
     (subst (λ ls. LinesRun share prices (room - length output_names) 2 ls group (after_text first.text later)) body_lines both)

@@ -21,7 +21,7 @@ use Rattle.settlement.specs.Accepting.{Accepted, a_closing, an_entry, an_issue, 
 use Rattle.settlement.specs.Laws.{InOrder, OutputInOrder, StopsBehind}
 use Rattle.settlement.specs.Runs.{GoesOn, LinesRun, Ran, after_text, no_journal, no_room, runs, stopped}
 use Rattle.settlement.specs.Steps.{after_reading, done_by}
-use Rattle.settlement.specs.Texts.{bills_text, lines_in}
+use Rattle.settlement.specs.Texts.{bills_text, text_lines}
 use Rattle.settlement.specs.declared.fault.RunFault.{RunFault}
 use Rattle.settlement.specs.declared.fault.RunRefusal.{RunRefusal}
 
@@ -119,4 +119,4 @@ pub output_in_order : OutputInOrder
 output_in_order share prices journal room group ran (no_journal begins) = inl (record { fault = refl; text = refl; after = refl })
 output_in_order share prices journal room group ran (no_room body begins short) = inl (record { fault = refl; text = refl; after = refl })
 output_in_order share prices journal room group ran (runs body rest begins long lines) =
-    inr (record { body = body; begins = begins; rest = rest; order = in_order share prices (lines_in body) _ _ group rest lines; names = refl })
+    inr (record { body = body; begins = begins; rest = rest; order = in_order share prices (text_lines body) _ _ group rest lines; names = refl })

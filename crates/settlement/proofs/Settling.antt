@@ -7,7 +7,7 @@ use Rattle.steps.specs.Books.{BookState, SameTerms}
 use Rattle.steps.specs.Months.{Prices, Share}
 use Rattle.settlement.specs.Leading.{LeadsOnBalanced}
 use Rattle.settlement.specs.Runs.{JournalDone}
-use Rattle.settlement.specs.Setups.{Settled, group_of}
+use Rattle.settlement.specs.Setups.{JournalSettled, group_of}
 use Rattle.settlement.specs.declared.run.Outcome.{Outcome}
 use Rattle.settlement.specs.declared.setup.Setup.{Setup}
 
@@ -16,7 +16,7 @@ leads : (share : Share) (prices : ℕ → Prices) (history : List Event) (group 
 leads share prices [] group (is, balanced) = is
 leads share prices (event ∷ history) group (before, throughout, happens, balanced) = (before, leads share prices history before throughout, happens)
 
-pub settled : {R T : Type 0} (share : R → Share) (prices : T → ℕ → Prices) (setup : Setup R T) (book after : BookState R T) (first : List Event) (journal old : List ℕ) (outcome : Outcome) (new : List ℕ) → group_of setup ≡ Ok book.group → book.rule ≡ setup.rule → book.tariff ≡ setup.tariff → BalancedThroughout (share book.rule) (prices book.tariff) first book.group → JournalDone (share book.rule) (prices book.tariff) journal (old, book.group) outcome (new, after.group) → SameTerms book after → LeadsOnBalanced share prices journal book after → Settled share prices setup journal old (Ok outcome) new
+pub settled : {R T : Type 0} (share : R → Share) (prices : T → ℕ → Prices) (setup : Setup R T) (book after : BookState R T) (first : List Event) (journal old : List ℕ) (outcome : Outcome) (new : List ℕ) → group_of setup ≡ Ok book.group → book.rule ≡ setup.rule → book.tariff ≡ setup.tariff → BalancedThroughout (share book.rule) (prices book.tariff) first book.group → JournalDone (share book.rule) (prices book.tariff) journal (old, book.group) outcome (new, after.group) → SameTerms book after → LeadsOnBalanced share prices journal book after → JournalSettled share prices setup journal old (Ok outcome) new
 settled {R} {T} share prices setup book after first journal old outcome new opens rule tariff balanced done same leads_on =
     let (led, throughout) = leads_on.balanced first (leads (share book.rule) (prices book.tariff) first book.group balanced) in
     let by_rule = subst (λ (r : R). JournalDone (share r) (prices book.tariff) journal (old, book.group) outcome (new, after.group)) rule done in

@@ -11,7 +11,7 @@ use Rattle.steps.specs.Months.{Prices, Share}
 use Rattle.settlement.specs.Laws.{OneOutcome}
 use Rattle.settlement.specs.Runs.{GoesOn, LinesRun, Ran, after_text, no_journal, no_room, runs}
 use Rattle.settlement.specs.Steps.{after_reading}
-use Rattle.settlement.specs.Texts.{lines_in}
+use Rattle.settlement.specs.Texts.{text_lines}
 use Rattle.settlement.specs.declared.fault.RunRefusal.{RunRefusal}
 
 once : (number : ℕ) (group : Group) (step : Result (List ℕ × Group) RunRefusal) (Rest : List ℕ → Group → Ran → Type 0) (ran other : Ran) → GoesOn number group step Rest ran → GoesOn number group step Rest other → ((text : List ℕ) (new : Group) (a b : Ran) → Rest text new a → Rest text new b → a ≡ b) → ran ≡ other
@@ -39,5 +39,5 @@ one_outcome share prices journal room group ran other (runs body first begins lo
 one_outcome share prices journal room group ran other (runs body first begins long lines) (no_room body_too begins_too short) = absurd (omega (arith, short, long))
 one_outcome share prices journal room group ran other (runs body first begins long lines) (runs body_too first_too begins_too long_too lines_too) =
     let same : body_too ≡ body = append_cancel_left journal_names body_too body (sym begins_too.1 ∙ begins.1) in
-    let as_first = subst (λ b. LinesRun share prices (room - length output_names) 2 (lines_in b) group first_too) same lines_too in
-    ap (after_text output_names) (lines_once share prices (lines_in body) (room - length output_names) 2 group first first_too lines as_first)
+    let as_first = subst (λ b. LinesRun share prices (room - length output_names) 2 (text_lines b) group first_too) same lines_too in
+    ap (after_text output_names) (lines_once share prices (text_lines body) (room - length output_names) 2 group first first_too lines as_first)

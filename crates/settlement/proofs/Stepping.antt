@@ -23,7 +23,7 @@ use Rattle.steps.specs.Entries.{after_entry}
 use Rattle.steps.specs.Months.{Prices, Share, bill_of, supplies_at}
 use Rattle.steps.specs.Years.{after_year, closed, open_year, year_figures}
 use Rattle.settlement.proofs.Billing.{put_none}
-use Rattle.settlement.specs.Steps.{after_line, after_reading, as_refused, done_by, room_checked}
+use Rattle.settlement.specs.Steps.{after_line, after_reading, done_by, output_room, refused_as, room_checked, room_for}
 use Rattle.settlement.specs.Texts.{bills_text}
 use Rattle.settlement.specs.declared.fault.RunRefusal.{RunRefusal}
 use Rattle.settlement.specs.declared.fault.RunRefusal.TheVariants as refused
@@ -36,9 +36,9 @@ entered share prices room entry group new out at is =
     ([], rw is (rw (never_below room) refl), put_none out at)
 
 -- a line that the book accepts and that has the room goes through
-pub goes_through : (share : Share) (prices : ℕ → Prices) (room : ℕ) (line : Line) (group new : Group) (text : List ℕ) → done_by share prices line group ≡ Ok (text, new) → room_checked room line ≡ Ok tt → after_line share prices room line group ≡ Ok (text, new)
+pub goes_through : (share : Share) (prices : ℕ → Prices) (room : ℕ) (line : Line) (group new : Group) (text : List ℕ) → done_by share prices line group ≡ Ok (text, new) → room_checked room (room_for line) ≡ Ok tt → after_line share prices room line group ≡ Ok (text, new)
 goes_through share prices room line group new text done checked =
-    ap₂ (λ (d : Result (List ℕ × Group) BookRefusal) (r : Result (Unit {0}) RunRefusal). and_then (as_refused refused.Book d) (λ accepted. made (λ has. accepted) r)) done checked
+    ap₂ (λ (d : Result (List ℕ × Group) BookRefusal) (r : Result (Unit {0}) RunRefusal). and_then (refused_as refused.Book d) (λ accepted. made (λ has. accepted) r)) done checked
 
 -- a year that is closed in a December
 year_is : (share : Share) (prices : ℕ → Prices) (group new : Group) (figures : YearEnd) (december : ℕ) → closed prices group ≡ Ok (figures, new) → group.phase ≡ AtYearEnd december → done_by share prices Year group ≡ Ok (year_line december group.holder figures, new)
@@ -49,7 +49,7 @@ year_is share prices group new figures december closes ended =
     ap (made (λ d. (year_line d group.holder (year_figures (prices d) group), after_year prices d group))) ended_at
     ∙ ap (λ (p : YearEnd × Group). Ok (year_line december group.holder p.0, p.1)) pair
 
-pub year_written : (share : Share) (prices : ℕ → Prices) (room : ℕ) (group new : Group) (figures : YearEnd) (december place : ℕ) (old : List ℕ) (at : ℕ) (out : List ℕ) (end : ℕ) → closed prices group ≡ Ok (figures, new) → group.phase ≡ AtYearEnd december → place ≡ group.holder → room_checked room Year ≡ Ok tt → end ≡ at + length (year_line december place figures) → out ≡ put_in old at (year_line december place figures) → (text : List ℕ) × (after_line share prices room Year group ≡ Ok (text, new)) × Put old at text out end
+pub year_written : (share : Share) (prices : ℕ → Prices) (room : ℕ) (group new : Group) (figures : YearEnd) (december place : ℕ) (old : List ℕ) (at : ℕ) (out : List ℕ) (end : ℕ) → closed prices group ≡ Ok (figures, new) → group.phase ≡ AtYearEnd december → place ≡ group.holder → room_checked room output_room ≡ Ok tt → end ≡ at + length (year_line december place figures) → out ≡ put_in old at (year_line december place figures) → (text : List ℕ) × (after_line share prices room Year group ≡ Ok (text, new)) × Put old at text out end
 year_written share prices room group new figures december place old at out end closes ended at_place checked stop held =
     let done = year_is share prices group new figures december closes ended ∙ ap (λ p. Ok (year_line december p figures, new)) (sym at_place) in
     (_, goes_through share prices room Year group new _ done checked, record { stop = stop; held = held })
@@ -66,7 +66,7 @@ issue_is share prices group new drawing draft lines draws is issues =
 at_front : (lines slice new : List Bill) (members : ℕ) → overwritten lines slice ≡ new → length lines ≡ members → take members new ≡ lines
 at_front lines slice new members is many = grind (arith, common_steps)
 
-pub issue_written : (share : Share) (prices : ℕ → Prices) (room : ℕ) (group new : Group) (draft : Stamp) (month members : ℕ) (blank mid lines : List Bill) (old : List ℕ) (at : ℕ) (out : List ℕ) (end : ℕ) → after_drawing share prices group blank ≡ Ok (draft, mid) → after_issue share prices draft (group, mid) ≡ Ok (new, lines) → length blank ≡ 32 → length mid ≡ 32 → month ≡ draft.month → members ≡ length group.members.items → room_checked room Issue ≡ Ok tt → end ≡ at + length (bills_text month (take members lines)) → out ≡ put_in old at (bills_text month (take members lines)) → (text : List ℕ) × (after_line share prices room Issue group ≡ Ok (text, new)) × Put old at text out end
+pub issue_written : (share : Share) (prices : ℕ → Prices) (room : ℕ) (group new : Group) (draft : Stamp) (month members : ℕ) (blank mid lines : List Bill) (old : List ℕ) (at : ℕ) (out : List ℕ) (end : ℕ) → after_drawing share prices group blank ≡ Ok (draft, mid) → after_issue share prices draft (group, mid) ≡ Ok (new, lines) → length blank ≡ 32 → length mid ≡ 32 → month ≡ draft.month → members ≡ length group.members.items → room_checked room output_room ≡ Ok tt → end ≡ at + length (bills_text month (take members lines)) → out ≡ put_in old at (bills_text month (take members lines)) → (text : List ℕ) × (after_line share prices room Issue group ≡ Ok (text, new)) × Put old at text out end
 issue_written share prices room group new draft month members blank mid lines old at out end draws issues wide wide_too in_month as_many checked stop held =
     let (drawing, drawn_is, drawn_pair) = made_ok (λ (d : Stamp × List Bill). (d.0, overwritten d.1 blank)) (drawn share prices (length blank) group) (draft, mid) draws in
     let (issue, issued_so, issue_pair) = made_ok (λ (i : List Bill × Group). (i.1, overwritten i.0 mid)) (issued share prices draft (length mid) group) (new, lines) issues in
@@ -80,7 +80,7 @@ issue_written share prices room group new draft month members blank mid lines ol
     let text : bills_text month (take members lines) ≡ bills_text draft.month issue.0 = ap₂ bills_text in_month (at_front issue.0 mid lines members same_lines many) in
     (_, goes_through share prices room Issue group new _ done checked, put_as text (record { stop = stop; held = held }))
 
-accepted : {A E : Type 0} (refusal_of : E → RunRefusal) (r : Result A E) (x : A) → as_refused refusal_of r ≡ Ok x → r ≡ Ok x
+accepted : {A E : Type 0} (refusal_of : E → RunRefusal) (r : Result A E) (x : A) → refused_as refusal_of r ≡ Ok x → r ≡ Ok x
 accepted refusal_of (Ok y) x is = cc
 accepted refusal_of (Err e) x is = absurd cc
 
@@ -92,9 +92,9 @@ pub record Through (share : Share) (prices : ℕ → Prices) (reading : Result L
 
 pub through : (share : Share) (prices : ℕ → Prices) (room : ℕ) (reading : Result Line ReadRefusal) (group new : Group) (text : List ℕ) → after_reading share prices room reading group ≡ Ok (text, new) → Through share prices reading group new text
 through share prices room reading group new text is =
-    let (line, read, does) = and_then_ok (as_refused refused.Line reading) (λ (l : Line). after_line share prices room l group) (text, new) is in
-    let (done, accepts, checked) = and_then_ok (as_refused refused.Book (done_by share prices line group)) (λ (d : List ℕ × Group). made (λ has. d) (room_checked room line)) (text, new) does in
-    let (has, fits, same) = made_ok (λ (h : Unit {0}). done) (room_checked room line) (text, new) checked in
+    let (line, read, does) = and_then_ok (refused_as refused.Line reading) (λ (l : Line). after_line share prices room l group) (text, new) is in
+    let (done, accepts, checked) = and_then_ok (refused_as refused.Book (done_by share prices line group)) (λ (d : List ℕ × Group). made (λ has. d) (room_checked room (room_for line))) (text, new) does in
+    let (has, fits, same) = made_ok (λ (h : Unit {0}). done) (room_checked room (room_for line)) (text, new) checked in
     record {
       line = line;
       is = accepted refused.Line reading line read;

@@ -8,7 +8,7 @@ use Rattle.output.specs.Lines.{output_names}
 use Rattle.steps.specs.Months.{Prices, Share}
 use Rattle.settlement.specs.Accepting.{Accepted, ReadFirst}
 use Rattle.settlement.specs.Runs.{IsJournal, LinesRun, Ran, RunsOver, after_text}
-use Rattle.settlement.specs.Texts.{lines_in}
+use Rattle.settlement.specs.Texts.{text_lines}
 use Rattle.settlement.specs.declared.fault.RunFault.{RunFault}
 
 -- of so many lines, which are counted from a number on, all are accepted; or the fault is at the one behind those accepted
@@ -37,7 +37,7 @@ pub record BodyInOrder (share : Share) (prices : ℕ → Prices) (journal : List
   pub body : List ℕ
   pub begins : IsJournal journal body
   pub rest : Ran
-  pub order : InOrder share prices 2 (lines_in body) group rest
+  pub order : InOrder share prices 2 (text_lines body) group rest
   pub names : ran ≡ after_text output_names rest
 
 -- so every run either stops at line 1 or has its output in order
@@ -71,7 +71,7 @@ JournalsGoOn =
     (share : Share) (prices : ℕ → Prices) (room : ℕ) (journal more : List ℕ) (group : Group) (ran later : Ran)
     → WholeLines journal → length (journal ++ more) ≤ 65536
     → RunsOver share prices journal room group ran → ran.fault ≡ None
-    → LinesRun share prices (room - length ran.text) (length (lines_in journal) + 1) (lines_in more) ran.group later
+    → LinesRun share prices (room - length ran.text) (length (text_lines journal) + 1) (text_lines more) ran.group later
     → RunsOver share prices (journal ++ more) room group (after_text ran.text later)
 
 -- a run comes to one thing alone

@@ -7,11 +7,11 @@ use Rattle.steps.specs.Books.{BookState}
 use Rattle.steps.specs.Months.{Prices, Share}
 use Rattle.settlement.specs.Accepting.{Accepted, ReadFirst}
 use Rattle.settlement.specs.Runs.{IsJournal}
-use Rattle.settlement.specs.Texts.{lines_in}
+use Rattle.settlement.specs.Texts.{text_lines}
 
 -- the lines are the first of a journal behind its line of names, if there are any
 abbrev pub FirstOf : (journal : List ℕ) → List Line → Type 0
-FirstOf journal lines = (lines ≡ []) ⊎ ((body : List ℕ) × IsJournal journal body × ReadFirst (lines_in body) lines)
+FirstOf journal lines = (lines ≡ []) ⊎ ((body : List ℕ) × IsJournal journal body × ReadFirst (text_lines body) lines)
 
 -- the first lines of the journal are accepted, and make of the book what it is; and every history that leads to the book as
 -- it was leads with the calls of these lines to the book as it is, and balances, at its start and after each of its calls

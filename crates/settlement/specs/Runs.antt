@@ -10,7 +10,7 @@ use Rattle.lines.specs.declared.refusal.ReadRefusal.{ReadRefusal}
 use Rattle.output.specs.Lines.{output_names}
 use Rattle.steps.specs.Months.{Prices, Share}
 use Rattle.settlement.specs.Steps.{after_reading, output_room}
-use Rattle.settlement.specs.Texts.{lines_in}
+use Rattle.settlement.specs.Texts.{text_lines}
 use Rattle.settlement.specs.declared.fault.RunFault.{RunFault}
 use Rattle.settlement.specs.declared.fault.RunRefusal.{RunRefusal}
 use Rattle.settlement.specs.declared.fault.RunRefusal.TheVariants as refused
@@ -57,19 +57,19 @@ pub data RunsOver (share : Share) (prices : ℕ → Prices) (journal : List ℕ)
   no_journal : ((body : List ℕ) → IsJournal journal body → ⊥) → RunsOver share prices journal room group (stopped 1 refused.Journal group)
   no_room : (body : List ℕ) → IsJournal journal body → room < output_room → RunsOver share prices journal room group (stopped 1 refused.Room group)
   runs : (body : List ℕ) (ran : Ran) → IsJournal journal body → output_room ≤ room
-      → LinesRun share prices (room - length output_names) 2 (lines_in body) group ran
+      → LinesRun share prices (room - length output_names) 2 (text_lines body) group ran
       → RunsOver share prices journal room group (after_text output_names ran)
 
 -- what a run comes to is answered and done: the fault is told, the text stands in the output from a place on, the place
 -- after it is told, and the group is the one that the run comes to
-abbrev pub RunDone : Ran → (at : ℕ) → (old : List ℕ × Group) → Outcome → (new : List ℕ × Group) → Type 0
+abbrev RunDone : Ran → (at : ℕ) → (old : List ℕ × Group) → Outcome → (new : List ℕ × Group) → Type 0
 RunDone ran at old answer new =
     (answer.fault ≡ ran.fault) × Put old.0 at ran.text new.0 answer.written × (new.1 ≡ ran.group)
 
 -- the lines of a body are run
 abbrev pub BodyDone : Share → (ℕ → Prices) → (body : List ℕ) → (at : ℕ) → (old : List ℕ × Group) → Outcome → (new : List ℕ × Group) → Type 0
 BodyDone share prices body at old answer new =
-    (ran : Ran) × LinesRun share prices (length old.0 - at) 2 (lines_in body) old.1 ran × RunDone ran at old answer new
+    (ran : Ran) × LinesRun share prices (length old.0 - at) 2 (text_lines body) old.1 ran × RunDone ran at old answer new
 
 -- a journal is run, and what it comes to is written at the start of the output
 abbrev pub JournalDone : Share → (ℕ → Prices) → (journal : List ℕ) → (old : List ℕ × Group) → Outcome → (new : List ℕ × Group) → Type 0

@@ -38,28 +38,28 @@ room_for Issue = output_room
 room_for Year = output_room
 
 -- the same answer, with a refusal made one of the run
-abbrev pub as_refused : {A E : Type 0} → (E → RunRefusal) → Result A E → Result A RunRefusal
-as_refused refusal_of (Ok x) = Ok x
-as_refused refusal_of (Err e) = Err (refusal_of e)
+abbrev pub refused_as : {A E : Type 0} → (E → RunRefusal) → Result A E → Result A RunRefusal
+refused_as refusal_of (Ok x) = Ok x
+refused_as refusal_of (Err e) = Err (refusal_of e)
 
--- whether the output has so many bytes left
-abbrev pub room_checked : (room : ℕ) → Line → Result (Unit {0}) RunRefusal
-room_checked room line = if nat_lt room (room_for line) then Err refused.Room else Ok tt
+-- whether the output has left the bytes that are needed
+abbrev pub room_checked : (room needed : ℕ) → Result (Unit {0}) RunRefusal
+room_checked room needed = if nat_lt room needed then Err refused.Room else Ok tt
 
 -- what a line does: the book refuses it before the output does
 abbrev pub after_line : Share → (ℕ → Prices) → (room : ℕ) → Line → Group → Result (List ℕ × Group) RunRefusal
 after_line share prices room line group =
-    and_then (as_refused refused.Book (done_by share prices line group)) (λ done.
-    made (λ checked. done) (room_checked room line))
+    and_then (refused_as refused.Book (done_by share prices line group)) (λ done.
+    made (λ checked. done) (room_checked room (room_for line)))
 
 -- what is read of a line does the same, where it is a line
 abbrev pub after_reading : Share → (ℕ → Prices) → (room : ℕ) → Result Line ReadRefusal → Group → Result (List ℕ × Group) RunRefusal
 after_reading share prices room reading group =
-    and_then (as_refused refused.Line reading) (λ line. after_line share prices room line group)
+    and_then (refused_as refused.Line reading) (λ line. after_line share prices room line group)
 
 -- a step is done: its text stands in the output from a place on, and the group is that of the step; or the step is refused,
 -- and both are as they were
-abbrev pub StepDone : Result (List ℕ × Group) RunRefusal → (at : ℕ) → (old : List ℕ × Group) → Result ℕ RunRefusal → (new : List ℕ × Group) → Type 0
+abbrev StepDone : Result (List ℕ × Group) RunRefusal → (at : ℕ) → (old : List ℕ × Group) → Result ℕ RunRefusal → (new : List ℕ × Group) → Type 0
 StepDone step at old (Ok end) new = (text : List ℕ) × (step ≡ Ok (text, new.1)) × Put old.0 at text new.0 end
 StepDone step at old (Err refusal) new = (step ≡ Err refusal) × (new ≡ old)
 

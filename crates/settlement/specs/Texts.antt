@@ -12,9 +12,9 @@ onto_first byte [] = (byte ∷ []) ∷ []
 onto_first byte (line ∷ lines) = (byte ∷ line) ∷ lines
 
 -- the lines of a text, each with the line feed that ends it; what follows the last line feed is a line that has none
-abbrev pub lines_in : (text : List ℕ) → List (List ℕ)
-lines_in [] = []
-lines_in (byte ∷ text) = if byte == 10 then (byte ∷ []) ∷ lines_in text else onto_first byte (lines_in text)
+abbrev pub text_lines : (text : List ℕ) → List (List ℕ)
+text_lines [] = []
+text_lines (byte ∷ text) = if byte == 10 then (byte ∷ []) ∷ text_lines text else onto_first byte (text_lines text)
 
 -- the lines of the bills of a month, in order of place
 abbrev pub bills_text : (month : ℕ) → List Bill → List ℕ
@@ -26,4 +26,4 @@ NextLine text r =
     MatchOption r (text ≡ [])
     (λ parts.
     (text ≡ parts.0.now ++ parts.1.now) × (0 < length parts.0.now)
-    × (lines_in text ≡ parts.0.now ∷ lines_in parts.1.now))
+    × (text_lines text ≡ parts.0.now ∷ text_lines parts.1.now))

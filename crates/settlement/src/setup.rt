@@ -1,6 +1,6 @@
 //! A group with what it is settled by, from which a book is opened.
 ghost use Rattle.std.specs.Prelude.{◌≡◌};
-ghost use Rattle.settlement.specs.Setups.{Opened, Settled};
+ghost use Rattle.settlement.specs.Setups.{BookOpened, JournalSettled};
 
 use crate::run::{Outcome, run};
 use book::book::Book;
@@ -30,7 +30,7 @@ pub struct Setup<'a, R, T> {
 impl<R: SharingRule + Drop, T: Tariff + Drop> Setup<'_, R, T> {
     /// A book of the group, with its first month open.
     pub fn open(self) -> Result<Book<R, T>, BookRefusal>
-        ensures opened { Opened R.SharingRule.sharing T.Tariff.price self.entry result }
+        ensures opened { BookOpened R.SharingRule.sharing T.Tariff.price self.entry result }
     {
         let mut book = Book::new(self.rule, self.tariff);
         book.open(self.number, self.start, self.holder, self.records)?;
@@ -44,7 +44,7 @@ pub fn settle<R: SharingRule + Drop, T: Tariff + Drop>(
     journal: &[u8],
     out: &mut [u8],
 ) -> Result<Outcome, BookRefusal>
-    ensures { Settled R.SharingRule.sharing T.Tariff.price setup.entry journal.now out.old result out.new }
+    ensures { JournalSettled R.SharingRule.sharing T.Tariff.price setup.entry journal.now out.old result out.new }
 {
     let mut book = setup.open()?;
     Ok(run(&mut book, journal, out))

@@ -33,9 +33,9 @@ fn enter<R: SharingRule, T: Tariff>(
     Ok(at)
 }
 
-// Whether the output has so much room left as a run asks for where it writes.
+// Whether so much room is left as a run asks for where it writes.
 pub(crate) fn check_room(room: usize) -> Result<(), RunRefusal>
-    ensures answer { result ≡ room_checked room lines.Issue }
+    ensures answer { result ≡ room_checked room output_room }
     ensures room { IfOk result (λ _. output_room ≤ room) }
 {
     if room < OUTPUT_ROOM {

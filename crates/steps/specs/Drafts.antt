@@ -21,7 +21,7 @@ abbrev pub stamped : (month : ℕ) → Group → Stamp
 stamped month group = record { number = group.number; month = month; entries = group.entries }
 
 -- the three numbers are those of a draft of now
-abbrev pub agrees : Phase → Group → Stamp → Bool
+abbrev agrees : Phase → Group → Stamp → Bool
 agrees Blank group stamp = false
 agrees (Open month) group stamp =
     stamp.number == group.number && (stamp.month == month && stamp.entries == group.entries)

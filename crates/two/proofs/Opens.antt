@@ -6,7 +6,7 @@ use Rattle.group.specs.Groups.{opened}
 use Rattle.group.specs.declared.group.Group.{Group}
 use Rattle.group.specs.declared.refusal.BookRefusal.{BookRefusal}
 use Rattle.settlement.specs.Runs.{JournalDone}
-use Rattle.settlement.specs.Setups.{Settled, group_of}
+use Rattle.settlement.specs.Setups.{JournalSettled, group_of}
 use Rattle.settlement.specs.declared.run.Outcome.{Outcome}
 use Rattle.settlement.specs.declared.setup.Setup.{Setup}
 use Rattle.sharing.specs.Rules.{proportion}
@@ -21,7 +21,7 @@ opens setup is =
     ap₂ (λ n s. opened n s setup.holder setup.records.now) is.number is.start
     ∙ ap₂ (λ h r. opened 7 288 h r) is.holder is.records
 
-pub settled_two : (setup : Setup Proportion FixedTariff) (journal old : List ℕ) (outcome : Outcome) (new : List ℕ) → IsTwo setup → Settled (λ rule. proportion) (λ (tariff : FixedTariff) month. charged tariff.prices) setup journal old (Ok outcome) new → SettlesTwo journal old outcome new
+pub settled_two : (setup : Setup Proportion FixedTariff) (journal old : List ℕ) (outcome : Outcome) (new : List ℕ) → IsTwo setup → JournalSettled (λ rule. proportion) (λ (tariff : FixedTariff) month. charged tariff.prices) setup journal old (Ok outcome) new → SettlesTwo journal old outcome new
 settled_two setup journal old outcome new is (group, opened_so, after, done, history, balanced) =
     let pair : ◌≡◌ {A = Result Group BookRefusal} (Ok group) (Ok two) = sym opened_so ∙ opens setup is in
     let same : group ≡ two = cc in
