@@ -1,13 +1,15 @@
 //! The book, by its calls.
-ghost use Rattle.std.specs.Prelude.{◌≡◌, length};
+ghost use Rattle.std.specs.Prelude.{◌≡◌, ◌≤◌, length};
 ghost use Rattle.balance.specs.Balances.{BeginsBalanced, GoesOnBalanced, drawing_told, issue_told, lines_in};
 ghost use Rattle.balance.specs.Histories.{Opening, Entering, Drawing, Checking, Issuing, Withdrawing, Closing};
 ghost use Rattle.ledger.specs.Zones.{in_zone};
 ghost use Rattle.group.specs.Groups.{blank, member_at};
 ghost use Rattle.group.specs.Results.{Answers, Follows};
+ghost use Rattle.group.specs.declared.group.Phase.TheVariants.{Blank};
 ghost use Rattle.steps.specs.Books.{SameTerms, after_opening};
 ghost use Rattle.steps.specs.Drafts.{after_drawing, after_issue, is_current};
 ghost use Rattle.steps.specs.Entries.{after_entry};
+ghost use Rattle.steps.specs.Sound.{most_entries};
 ghost use Rattle.steps.specs.Years.{closed, previewed};
 
 use crate::draft::Draft;
@@ -76,21 +78,24 @@ impl<R: SharingRule, T: Tariff> Book<R, T> {
 
     /// How many members the group has, which is none before the opening.
     pub fn members(&self) -> usize
-        ensures { result ≡ length self.now.group.members.items }
+        ensures count { result ≡ length self.now.group.members.items }
+        ensures unopened { self.now.group.phase ≡ Blank → result ≡ 0 }
     {
         self.group.members.len()
     }
 
     /// The number of the group, which is 0 before the opening.
     pub fn number(&self) -> u32
-        ensures { result ≡ self.now.group.number }
+        ensures number { result ≡ self.now.group.number }
+        ensures unopened { self.now.group.phase ≡ Blank → result ≡ 0 }
     {
         self.group.number
     }
 
     /// The place of the holder, which is 0 before the opening.
     pub fn holder(&self) -> usize
-        ensures { result ≡ self.now.group.holder }
+        ensures place { result ≡ self.now.group.holder }
+        ensures unopened { self.now.group.phase ≡ Blank → result ≡ 0 }
     {
         self.group.holder
     }
@@ -102,9 +107,10 @@ impl<R: SharingRule, T: Tariff> Book<R, T> {
         self.group.phase
     }
 
-    /// How many entries the open month has, which is none where no month is open.
+    /// How many entries the open month has, which is at most 1,000, and none where no month is open.
     pub fn entries(&self) -> u16
-        ensures { result ≡ self.now.group.entries }
+        ensures count { result ≡ self.now.group.entries }
+        ensures most { result ≤ most_entries self.now.group.phase }
     {
         self.group.entries
     }
@@ -209,8 +215,7 @@ impl<R: SharingRule, T: Tariff> Book<R, T> {
         ensures balance { GoesOnBalanced R.SharingRule.sharing T.Tariff.price
             self.old (Issuing draft (length lines.old) (issue_told result (lines_in self.old.group lines.new))) self.new }
     {
-        let current = draft.is_current(&self.group);
-        draft.end();
+        let current = draft.ends_current(&self.group);
         let month = drawable(&self.group, lines.len())?;
         if !current {
             return Err(BookRefusal::Draft);

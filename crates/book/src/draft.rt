@@ -56,6 +56,15 @@ impl Draft {
         }
     }
 
+    // Lets the draft go, and tells whether it was current.
+    pub(crate) fn ends_current(self, group: &Group) -> bool
+        ensures { result ≡ is_current group.now self }
+    {
+        let current = self.is_current(group);
+        self.end();
+        current
+    }
+
     // Lets the draft go.
     pub(crate) fn end(self) {
         let Draft {

@@ -1,5 +1,5 @@
 -- No entry leaves the ranges of a group's figures.
-use Rattle.std.proofs.Common.{Err, length-set, Some, slice_get, nat_lt, if◌then◌else◌, ap, ◌∙◌, ◌≡◌, ℕ, ◌≤◌, Ok, Result, ℤ, nat_abs, arith, subst, sym}
+use Rattle.std.proofs.Common.{Err, length-set, Some, slice_get, nat_lt, if◌then◌else◌, ap, ◌∙◌, ◌≡◌, ℕ, ◌+◌, ◌*◌, ◌<◌, ◌≤◌, Ok, Result, ℤ, nat_abs, arith, subst, sym}
 use Rattle.std.proofs.lemmas.Bool.Decides.{nat_tests}
 use Rattle.std.proofs.lemmas.Grind.{common_steps}
 use Rattle.std.proofs.lemmas.Int.{ints}
@@ -29,7 +29,7 @@ use Rattle.group.specs.declared.refusal.BookRefusal.{BookRefusal}
 use Rattle.group.specs.declared.register.Register.{Register}
 use Rattle.steps.proofs.Lists.{found_all}
 use Rattle.steps.specs.Entries.{after_entry, open_month, place_of, recorded}
-use Rattle.steps.specs.Sound.{Sound, SoundFlows, SoundMember, SoundPhase, SoundRegister, most_owed}
+use Rattle.steps.specs.Sound.{Sound, SoundFlows, SoundMember, SoundPhase, SoundRegister, most_entries, most_owed}
 
 -- what is read of a register is of seven digits, and its tally in range
 read_sound : (month day value next : ℕ) (register after : Register) → read month day value next register ≡ Ok after → SoundRegister after
@@ -95,12 +95,15 @@ recorded_sound month (Change at day value start) owed member after enough sound 
 recorded_sound month (Correction at kwh) owed member after enough sound is = on_register_sound at (corrected kwh) (corrected_sound kwh) owed member after sound is
 recorded_sound month (Payment place drams) owed member after enough sound is = paid_sound drams owed member after enough sound is
 
+open_is : (phase : Phase) (month : ℕ) → open_month phase ≡ Ok month → phase ≡ Open month
+open_is Blank month is = absurd cc
+open_is (Open m) month is = cc
+open_is (YearEnd d) month is = absurd cc
+open_is Over month is = absurd cc
+
 -- in an open month what may be owed is at least what a payment may leave
-owed_enough : (phase : Phase) (month : ℕ) → open_month phase ≡ Ok month → 1000000000 ≤ most_owed phase
-owed_enough Blank month is = absurd cc
-owed_enough (Open m) month is = omega arith
-owed_enough (YearEnd d) month is = absurd cc
-owed_enough Over month is = absurd cc
+owed_enough : (phase : Phase) (month : ℕ) → phase ≡ Open month → 1000000000 ≤ most_owed phase
+owed_enough phase month is = let owed : most_owed phase ≡ 1000000000 + 2000000000000 * month = ap most_owed is in omega (arith, owed)
 
 -- what an admitted entry is for is a record of the group
 pub admitted_at : (place : ℕ) (group : Group) (member : Member) → admitted place group ≡ Ok member → slice_get group.members.items place ≡ Some member
@@ -109,29 +112,40 @@ admitted_at place group member is =
     let same : found ≡ member = grind (arith, nat_tests) in
     ok_or_ok (slice_get group.members.items place) refused.Place found told ∙ ap (λ (m : Member). Some m) same
 
+-- and the month has room for it
+admitted_room : (place : ℕ) (group : Group) (member : Member) → admitted place group ≡ Ok member → group.entries < 1000
+admitted_room place group member is =
+    let (found, told, rest) = and_then_ok (ok_or (slice_get group.members.items place) refused.Place) (λ found. if nat_lt group.entries 1000 then Ok found else Err refused.Full) member is in
+    grind (arith, nat_tests)
+
 -- no entry leaves the ranges of a group's figures
-altered_sound : (place : ℕ) (step : Member → Result Member BookRefusal) (group after : Group) → ((member changed : Member) → SoundMember (most_owed group.phase) member → step member ≡ Ok changed → SoundMember (most_owed group.phase) changed) → Sound group → altered place step group ≡ Ok after → Sound after
-altered_sound place step group after keeps sound is =
+altered_sound : (place month : ℕ) (step : Member → Result Member BookRefusal) (group after : Group) → group.phase ≡ Open month → ((member changed : Member) → SoundMember (most_owed group.phase) member → step member ≡ Ok changed → SoundMember (most_owed group.phase) changed) → Sound group → altered place step group ≡ Ok after → Sound after
+altered_sound place month step group after opened keeps sound is =
     let (member, found, rest) = and_then_ok (admitted place group) (λ (m : Member). made (λ (a : Member). entered place a group) (step m)) after is in
     let (changed, stepped, same) = made_ok (λ (a : Member). entered place a group) (step member) after rest in
     let P : Member → Type 0 = λ m. SoundMember (most_owed group.phase) m in
     let was : SoundMember (most_owed group.phase) member = found_all P group.members.items place member sound.each (admitted_at place group member found) in
     let kept : SoundMember (most_owed group.phase) changed = keeps member changed was stepped in
     let as_many = length-set group.members.items place changed in
+    let room = admitted_room place group member found in
+    let most : most_entries group.phase ≡ 1000 = ap most_entries opened in
     let Q : Group → Type 0 = λ g. Sound g in
     let R : ℕ → Type 0 = λ n. SoundPhase group.phase group.holder n in
     subst Q same (record {
       few = omega (arith, as_many, sound.few);
       each = All-set P group.members.items place changed kept sound.each;
       carried = sound.carried;
+      entries = omega (arith, room, most);
       phase = subst R (sym as_many) sound.phase;
+      unopened = λ never. absurd cc;
     })
 
 pub entry_sound : (entry : Entry) (group after : Group) → Sound group → after_entry entry group ≡ Ok after → Sound after
 entry_sound entry group after sound is =
     let (month, opened, rest) = and_then_ok (open_month group.phase) (λ (m : ℕ). altered (place_of entry) (recorded m entry) group) after is in
-    let enough : 1000000000 ≤ most_owed group.phase = owed_enough group.phase month opened in
-    altered_sound (place_of entry) (recorded month entry) group after (λ member changed was stepped. recorded_sound month entry (most_owed group.phase) member changed enough was stepped) sound rest
+    let is_open = open_is group.phase month opened in
+    let enough = owed_enough group.phase month is_open in
+    altered_sound (place_of entry) month (recorded month entry) group after is_open (λ member changed was stepped. recorded_sound month entry (most_owed group.phase) member changed enough was stepped) sound rest
 
 -- a call that follows a step which leaves a sound group leaves one
 pub follows_sound : (step : Result Group BookRefusal) (old new : Group) (r : Result (Unit {0}) BookRefusal) → Sound old → ((after : Group) → step ≡ Ok after → Sound after) → Follows step old r new → Sound new
@@ -142,5 +156,5 @@ follows_sound step old new (Err refusal) sound keeps follows = let P : Group →
 pub recorded_follows : (entry : Entry) (month : ℕ) (old new : Group) (r : Result (Unit {0}) BookRefusal) → old.phase ≡ Open month → Sound old → Follows (altered (place_of entry) (recorded month entry) old) old r new → Sound new
 recorded_follows entry month old new r is sound follows =
     follows_sound (altered (place_of entry) (recorded month entry) old) old new r sound (λ after goes.
-    altered_sound (place_of entry) (recorded month entry) old after (λ member changed was stepped.
-    recorded_sound month entry (most_owed old.phase) member changed (owed_enough old.phase month (ap open_month is)) was stepped) sound goes) follows
+    altered_sound (place_of entry) month (recorded month entry) old after is (λ member changed was stepped.
+    recorded_sound month entry (most_owed old.phase) member changed (owed_enough old.phase month is) was stepped) sound goes) follows

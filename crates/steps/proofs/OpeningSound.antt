@@ -66,5 +66,7 @@ opening_sound number start holder records after is =
       few = omega (arith, as_many, few);
       each = members_open (most_owed (Open start)) records seven;
       carried = nothing_carried start;
+      entries = omega arith;
       phase = (last, omega (arith, as_many, inside));
+      unopened = λ never. absurd cc;
     })

@@ -1,4 +1,4 @@
--- What holds of the group in every book: the ranges of its figures, so that no call leaves what numbers can hold.
+-- What holds of the group in every book: the ranges of its figures, so that no call leaves what numbers can hold, and that it is blank before its opening.
 use Rattle.std.specs.Prelude.{◌≡◌, ℕ, ◌+◌, ◌*◌, ◌%◌, ◌<◌, ◌≤◌, All, length, nat_abs}
 use Rattle.ledger.specs.Zones.{in_zone}
 use Rattle.ledger.specs.declared.zone.ByFlow.{ByFlow}
@@ -6,6 +6,7 @@ use Rattle.billing.specs.declared.account.Account.{Account}
 use Rattle.billing.specs.declared.supply.Supply.{Supply}
 use Rattle.ledger.specs.declared.zone.ByZone.{ByZone}
 use Rattle.ledger.specs.declared.zone.Zone.{Zone}
+use Rattle.group.specs.Groups.{blank}
 use Rattle.group.specs.declared.group.Group.{Group}
 use Rattle.group.specs.declared.group.Phase.{Phase}
 use Rattle.group.specs.declared.group.Phase.TheVariants.{Blank, Open, YearEnd, Over}
@@ -44,6 +45,13 @@ most_carried (Open month) = 64000000 * (month % 12)
 most_carried (YearEnd december) = 768000000
 most_carried Over = 0
 
+-- the most entries in a phase: an open month takes up to 1,000, and elsewhere there are none
+abbrev pub most_entries : Phase → ℕ
+most_entries Blank = 0
+most_entries (Open month) = 1000
+most_entries (YearEnd december) = 0
+most_entries Over = 0
+
 -- the months are those of the calendar, and the holder is a member once the group is opened
 abbrev pub SoundPhase : Phase → (holder members : ℕ) → Type 0
 SoundPhase Blank holder members = Unit {0}
@@ -51,12 +59,14 @@ SoundPhase (Open month) holder members = (month ≤ 1199) × (holder < members)
 SoundPhase (YearEnd december) holder members = (december ≤ 1199) × (december % 12 ≡ 11) × (holder < members)
 SoundPhase Over holder members = holder < members
 
--- the figures of the group are in their ranges, and its phase has the months and the members that it may have
+-- the figures of the group are in their ranges, its phase has the months and the members that it may have, and before its opening it is the blank one
 pub record Sound (group : Group) : Type 0 where
   pub few : length group.members.items ≤ 32
   pub each : All (SoundMember (most_owed group.phase)) group.members.items
   pub carried : (zone : Zone) → in_zone group.carried zone ≤ most_carried group.phase
+  pub entries : group.entries ≤ most_entries group.phase
   pub phase : SoundPhase group.phase group.holder (length group.members.items)
+  pub unopened : group.phase ≡ Blank → group ≡ blank
 
 -- what a member got in a month is at most 2,000,000 kWh of each kind
 pub record SmallSupplies (supplies : ByZone Supply) : Type 0 where
