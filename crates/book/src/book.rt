@@ -13,6 +13,7 @@ ghost use Rattle.steps.specs.Sound.{most_entries};
 ghost use Rattle.steps.specs.Years.{closed, previewed};
 
 use crate::draft::Draft;
+use crate::entry::make_entry;
 use crate::month::{drawable, issue_lines, write_lines};
 use crate::year::{open_year, post_year, year_end};
 use calendar::days::Month;
@@ -154,31 +155,7 @@ impl<R: SharingRule, T: Tariff> Book<R, T> {
         ensures balance { GoesOnBalanced R.SharingRule.sharing T.Tariff.price
             self.old (Entering entry result) self.new }
     {
-        let group = &mut self.group;
-        match (group.phase, entry) {
-            (
-                Phase::Open(month),
-                Entry::Reading {
-                    register,
-                    day,
-                    value,
-                },
-            ) => group.read(register, month, day, value, value),
-            (
-                Phase::Open(month),
-                Entry::Change {
-                    register,
-                    day,
-                    value,
-                    start,
-                },
-            ) => group.read(register, month, day, value, start),
-            (Phase::Open(_), Entry::Correction { register, quantity }) => {
-                group.correct(register, quantity)
-            }
-            (Phase::Open(_), Entry::Payment { place, drams }) => group.pay(place, drams),
-            (Phase::Blank | Phase::YearEnd(_) | Phase::Over, _) => Err(BookRefusal::NoMonth),
-        }
+        make_entry(&mut self.group, entry)
     }
 
     /// Writes the lines of the open month into a slice and gives a draft of them, which alters nothing in the book.

@@ -3,6 +3,7 @@
 
 pub mod book;
 pub mod draft;
+mod entry;
 mod month;
 mod posting;
 mod year;

@@ -114,8 +114,8 @@ impl Member {
         self.registers.set(at.zone, flows);
     }
 
-    /// Enters what is read of a register.
-    pub fn read(
+    // Enters what is read of a register.
+    pub(crate) fn read(
         &mut self,
         at: MemberRegister,
         month: Month,
@@ -130,8 +130,8 @@ impl Member {
         Ok(())
     }
 
-    /// Enters a correction of a register's tally.
-    pub fn correct(&mut self, at: MemberRegister, kwh: i32) -> Result<(), BookRefusal>
+    // Enters a correction of a register's tally.
+    pub(crate) fn correct(&mut self, at: MemberRegister, kwh: i32) -> Result<(), BookRefusal>
         ensures { Follows (on_register at (corrected kwh) self.old) self.old result self.new }
     {
         let register = self.register_at(at).corrected(kwh)?;
@@ -139,8 +139,8 @@ impl Member {
         Ok(())
     }
 
-    /// Enters a payment in drams.
-    pub fn pay(&mut self, drams: u32) -> Result<(), BookRefusal>
+    // Enters a payment in drams.
+    pub(crate) fn pay(&mut self, drams: u32) -> Result<(), BookRefusal>
         ensures { Follows (on_account (paid drams) self.old) self.old result self.new }
     {
         self.account = paid(self.account, drams)?;

@@ -10,8 +10,8 @@ pub const MOST_PAYMENT: u32 = 100_000_000;
 /// The lowest debt that a payment may leave, in drams.
 pub const LEAST_DEBT: i64 = -1_000_000_000;
 
-/// The account after a payment in drams.
-pub fn paid(account: Account, drams: u32) -> Result<Account, BookRefusal>
+// The account after a payment in drams.
+pub(crate) fn paid(account: Account, drams: u32) -> Result<Account, BookRefusal>
     ensures { result ≡ paid drams account }
 {
     if drams < 1 || drams > MOST_PAYMENT {

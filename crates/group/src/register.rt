@@ -27,8 +27,8 @@ impl Register {
         Register { standing, tally: 0 }
     }
 
-    /// The register after a value is read of it on a day of the open month, from which on it stands at the next one.
-    pub fn read(
+    // The register after a value is read of it on a day of the open month, from which on it stands at the next one.
+    pub(crate) fn read(
         self,
         month: Month,
         day: Day,
@@ -60,8 +60,8 @@ impl Register {
         })
     }
 
-    /// The register after a correction of its tally.
-    pub fn corrected(self, kwh: i32) -> Result<Register, BookRefusal>
+    // The register after a correction of its tally.
+    pub(crate) fn corrected(self, kwh: i32) -> Result<Register, BookRefusal>
         ensures { result ≡ corrected kwh self }
     {
         if kwh.unsigned_abs() > MOST_TALLY {
@@ -72,9 +72,9 @@ impl Register {
     }
 }
 
-/// The kWh that a value tells, of a register that stands at another; none where it is below.
+// The kWh that a value tells, of a register that stands at another; none where it is below.
 #[tactic(auto, unfolding(crate::specs::Registers::quantity))]
-pub fn quantity(standing: u32, value: u32) -> Option<u32>
+fn quantity(standing: u32, value: u32) -> Option<u32>
     ensures { result ≡ quantity standing value }
 {
     value.checked_sub(standing)

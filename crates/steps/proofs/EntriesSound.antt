@@ -13,7 +13,7 @@ use Rattle.ledger.specs.declared.zone.Flow.TheVariants.{Consumed, Delivered}
 use Rattle.ledger.specs.declared.zone.Zone.{Zone}
 use Rattle.ledger.specs.declared.zone.Zone.TheVariants.{Day, Night}
 use Rattle.group.proofs.Stepping.{and_then_ok, made_ok, ok_or_ok}
-use Rattle.group.specs.Results.{Follows, made}
+use Rattle.group.specs.Results.{Follows, and_then, made}
 use Rattle.group.specs.declared.group.Phase.{Phase}
 use Rattle.group.specs.declared.group.Phase.TheVariants.{Blank, Open, YearEnd, Over}
 use Rattle.std.proofs.lemmas.List.Elements.{All-set}
@@ -140,21 +140,21 @@ altered_sound place month step group after opened keeps sound is =
       unopened = λ never. absurd cc;
     })
 
-pub entry_sound : (entry : Entry) (group after : Group) → Sound group → after_entry entry group ≡ Ok after → Sound after
+entry_sound : (entry : Entry) (group after : Group) → Sound group → after_entry entry group ≡ Ok after → Sound after
 entry_sound entry group after sound is =
     let (month, opened, rest) = and_then_ok (open_month group.phase) (λ (m : ℕ). altered (place_of entry) (recorded m entry) group) after is in
     let is_open = open_is group.phase month opened in
     let enough = owed_enough group.phase month is_open in
     altered_sound (place_of entry) month (recorded month entry) group after is_open (λ member changed was stepped. recorded_sound month entry (most_owed group.phase) member changed enough was stepped) sound rest
 
--- a call that follows a step which leaves a sound group leaves one
-pub follows_sound : (step : Result Group BookRefusal) (old new : Group) (r : Result (Unit {0}) BookRefusal) → Sound old → ((after : Group) → step ≡ Ok after → Sound after) → Follows step old r new → Sound new
-follows_sound step old new (Ok done) sound keeps follows = keeps new follows
-follows_sound step old new (Err refusal) sound keeps follows = let P : Group → Type 0 = λ g. Sound g in subst P (sym follows.1) sound
+-- an entry that follows its step leaves a sound group
+pub entry_follows : (entry : Entry) (old new : Group) (r : Result (Unit {0}) BookRefusal) → Sound old → Follows (after_entry entry old) old r new → Sound new
+entry_follows entry old new (Ok done) sound follows = entry_sound entry old new sound follows
+entry_follows entry old new (Err refusal) sound follows = let P : Group → Type 0 = λ g. Sound g in subst P (sym follows.1) sound
 
--- so does the part of an entry's step that is for an open month
-pub recorded_follows : (entry : Entry) (month : ℕ) (old new : Group) (r : Result (Unit {0}) BookRefusal) → old.phase ≡ Open month → Sound old → Follows (altered (place_of entry) (recorded month entry) old) old r new → Sound new
-recorded_follows entry month old new r is sound follows =
-    follows_sound (altered (place_of entry) (recorded month entry) old) old new r sound (λ after goes.
-    altered_sound (place_of entry) month (recorded month entry) old after is (λ member changed was stepped.
-    recorded_sound month entry (most_owed old.phase) member changed (owed_enough old.phase month is) was stepped) sound goes) follows
+-- in an open month an entry does what its step does to the record that it is for
+pub open_follows : (entry : Entry) (month : ℕ) (old new : Group) (r : Result (Unit {0}) BookRefusal) → old.phase ≡ Open month → Follows (altered (place_of entry) (recorded month entry) old) old r new → Follows (after_entry entry old) old r new
+open_follows entry month old new r is follows =
+    let same : after_entry entry old ≡ altered (place_of entry) (recorded month entry) old = ap (λ p. and_then (open_month p) (λ (m : ℕ). altered (place_of entry) (recorded m entry) old)) is in
+    let P : Result Group BookRefusal → Type 0 = λ step. Follows step old r new in
+    subst P (sym same) follows
