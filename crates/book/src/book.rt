@@ -9,7 +9,7 @@ ghost use Rattle.group.specs.declared.group.Phase.TheVariants.{Blank};
 ghost use Rattle.steps.specs.Books.{SameTerms, after_opening};
 ghost use Rattle.steps.specs.Drafts.{after_drawing, after_issue, is_current};
 ghost use Rattle.steps.specs.Entries.{after_entry};
-ghost use Rattle.steps.specs.Sound.{most_entries};
+ghost use Rattle.steps.specs.Sound.{most_carried, most_entries};
 ghost use Rattle.steps.specs.Years.{closed, previewed};
 
 use crate::draft::Draft;
@@ -59,9 +59,10 @@ impl<R: SharingRule, T: Tariff> Book<R, T> {
         }
     }
 
-    /// The balance that a zone carries, in kWh.
+    /// The balance that a zone carries, in kWh, which is none before the opening.
     pub fn carried(&self, zone: Zone) -> u64
-        ensures { result ≡ in_zone self.now.group.carried zone }
+        ensures balance { result ≡ in_zone self.now.group.carried zone }
+        ensures most { result ≤ most_carried self.now.group.phase }
     {
         self.group.carried.in_zone(zone)
     }
