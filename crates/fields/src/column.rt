@@ -31,7 +31,7 @@ pub trait Column: Copy {
     }
 }
 
-/// A number of up to nine digits.
+/// A number; a column holds those of up to nine digits.
 #[derive(Clone, Copy)]
 pub struct Number(pub u32);
 
@@ -58,7 +58,7 @@ fn short_number(part: &[u8]) -> Option<u32>
     Some(value as u32)
 }
 
-/// A signed number of up to nine digits.
+/// A signed number; a column holds those of up to nine digits.
 #[derive(Clone, Copy)]
 pub struct Signed(pub i32);
 
@@ -85,7 +85,7 @@ fn short_signed(part: &[u8]) -> Option<i32>
     Some(value as i32)
 }
 
-/// The day of a date.
+/// A day, told by its date.
 #[derive(Clone, Copy)]
 pub struct Dated(pub Day);
 

@@ -19,7 +19,7 @@ SevenParts bs line r =
     MatchOption r ((texts : List (List ℕ)) → length texts ≡ 7 → Parted texts bs → ⊥) (λ row. Parted (texts_of row) bs × OnLine line row)
 
 -- the bytes are the text of this fine value
-abbrev pub Spells : {X : Type 0} → Spelling X → X → Bor (List ℕ) → Type 0
+abbrev Spells : {X : Type 0} → Spelling X → X → Bor (List ℕ) → Type 0
 Spells s x part = s.fine x × (part.now ≡ s.text x)
 
 -- what the reader of the six columns after the kind answers: a value that each field spells, or the number of the first
