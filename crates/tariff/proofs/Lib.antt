@@ -1,1 +1,2 @@
+mod InForce
 mod Rows

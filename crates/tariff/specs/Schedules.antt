@@ -1,5 +1,5 @@
 -- A schedule of prices: which row is in force in a month, and the price by it.
-use Rattle.std.specs.Prelude.{ℕ, Bool, if◌then◌else◌, List, Some, None, fold, Option, nat_le}
+use Rattle.std.specs.Prelude.{All, ◌≡◌, ℕ, Bool, true, false, if◌then◌else◌, List, ◌∷◌, ◌++◌, Some, None, fold, Option, nat_le}
 use Rattle.tariff.specs.Charges.{stored}
 use Rattle.tariff.specs.declared.class.Class.{Class}
 use Rattle.tariff.specs.declared.row.Row.{Row}
@@ -12,6 +12,19 @@ has_begun month row = nat_le row.first_month month
 -- the row in force: the last in the list that has begun, whatever the order of the first months
 abbrev pub in_force : ℕ → List Row → Option Row
 in_force month = fold (λ last row. if has_begun month row then Some row else last) None
+
+-- the row is one of the rows and has begun, and none after it in the list has
+pub record LastBegun (month : ℕ) (rows : List Row) (row : Row) : Type 0 where
+  pub before : List Row
+  pub after : List Row
+  pub stands : rows ≡ before ++ (row ∷ after)
+  pub begun : has_begun month row ≡ true
+  pub none_later : All (λ later. has_begun month later ≡ false) after
+
+-- which row is in force, told by the rows alone; where it is none, none of them has begun
+abbrev pub InForce : ℕ → List Row → Option Row → Type 0
+InForce month rows (Some row) = LastBegun month rows row
+InForce month rows None = All (λ row. has_begun month row ≡ false) rows
 
 -- the stored price by the row in force, which is 0 where there is none
 abbrev pub scheduled : Option Row → Service → Class → ℕ
