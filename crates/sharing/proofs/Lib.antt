@@ -1,3 +1,4 @@
 pub mod Admission
 pub mod Layers
+mod Single
 pub mod Writing

@@ -82,7 +82,7 @@ proportion_fair pool needs =
 
 -- ---- sums and differences place by place
 
-pub length_plus : (xs ys : List ℕ) → length xs ≡ length ys → length (plus xs ys) ≡ length xs
+length_plus : (xs ys : List ℕ) → length xs ≡ length ys → length (plus xs ys) ≡ length xs
 length_plus [] ys same = sym same
 length_plus (x ∷ xs) [] same = refl
 length_plus (x ∷ xs) (y ∷ ys) same = ap suc (length_plus xs ys (omega arith))
@@ -93,7 +93,7 @@ get_or_plus (x ∷ xs) [] k = omega arith
 get_or_plus (x ∷ xs) (y ∷ ys) zero = refl
 get_or_plus (x ∷ xs) (y ∷ ys) (suc k) = get_or_plus xs ys k
 
-pub sum_plus : (xs ys : List ℕ) → sum (plus xs ys) ≡ sum xs + sum ys
+sum_plus : (xs ys : List ℕ) → sum (plus xs ys) ≡ sum xs + sum ys
 sum_plus [] ys = omega arith
 sum_plus (x ∷ xs) [] = omega arith
 sum_plus (x ∷ xs) (y ∷ ys) =
@@ -119,12 +119,12 @@ sum_less (x ∷ xs) (y ∷ ys) same within =
 
 -- ---- parts
 
-pub reserved_as_many : (pool : ℕ) (parts needs : List ℕ) → length (reserved pool parts needs) ≡ length needs
+reserved_as_many : (pool : ℕ) (parts needs : List ℕ) → length (reserved pool parts needs) ≡ length needs
 reserved_as_many pool parts [] = refl
 reserved_as_many pool [] (need ∷ needs) = ap suc (reserved_as_many pool [] needs)
 reserved_as_many pool (part ∷ parts) (need ∷ needs) = ap suc (reserved_as_many pool parts needs)
 
-pub reserved_within : (pool : ℕ) (parts needs : List ℕ) (k : ℕ) → slice_index (reserved pool parts needs) k ≤ slice_index needs k
+reserved_within : (pool : ℕ) (parts needs : List ℕ) (k : ℕ) → slice_index (reserved pool parts needs) k ≤ slice_index needs k
 reserved_within pool parts [] k = omega arith
 reserved_within pool [] (need ∷ needs) zero = omega arith
 reserved_within pool [] (need ∷ needs) (suc k) = reserved_within pool [] needs k

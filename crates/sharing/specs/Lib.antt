@@ -3,3 +3,4 @@ pub mod Refusals
 pub mod Rules
 pub mod Layer
 pub mod Fairness
+pub mod Laws

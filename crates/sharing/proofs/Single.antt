@@ -1,0 +1,55 @@
+-- What a rule gives one place.
+use Rattle.std.proofs.Common.{◌≡◌, ℕ, zero, suc, ◌+◌, ◌-◌, ◌*◌, ◌<◌, min, List, [], ◌∷◌, sum, take, ap, ◌∙◌, mul-add, mul-zero, mul-one, refl, arith}
+use Rattle.std.specs.Prelude.{slice_index}
+use Rattle.std.proofs.Math.Nat.{lt-mul-div-succ, mul-div-le}
+use Rattle.sharing.specs.Fair.{less}
+use Rattle.sharing.specs.Fairness.{get_or_plus, portion_grows, sum_cons}
+use Rattle.sharing.specs.Laws.{PartsGoAhead, ServesInOrder, SharesByNeed, WithinOne}
+use Rattle.sharing.specs.Rules.{ahead, portion, portions, reserved}
+
+pub serves_in_order : ServesInOrder
+serves_in_order pool [] place = omega arith
+serves_in_order pool (need ∷ needs) zero = omega arith
+serves_in_order pool (need ∷ needs) (suc place) =
+    omega (arith, serves_in_order (pool - need) needs place, sum_cons need (take place needs))
+
+-- a difference of two portions that are rounded down is less than 1 away from the exact one
+near : (given all before need : ℕ) → 0 < all → WithinOne given all need (portion given all (before + need) - portion given all before)
+near given all before need some =
+    let upto = portion given all (before + need) in
+    let own = portion given all before in
+    let split : upto ≡ own + (upto - own) = omega (arith, portion_grows given all before need) in
+    let parted : all * upto ≡ all * own + all * (upto - own) = ap (λ n. all * n) split ∙ mul-add all own (upto - own) in
+    let sum_of = mul-add given before need in
+    let upto_over = lt-mul-div-succ (given * (before + need)) some in
+    let own_over = lt-mul-div-succ (given * before) some in
+    let upto_next = mul-add all upto 1 in
+    let own_next = mul-add all own 1 in
+    let once = mul-one all in
+    record {
+      above = omega (arith, parted, sum_of, mul-div-le (given * (before + need)) all, own_over, own_next, once);
+      below = omega (arith, parted, sum_of, mul-div-le (given * before) all, upto_over, upto_next, once);
+    }
+
+each_near : (given all before : ℕ) (needs : List ℕ) (place : ℕ) → 0 < all → WithinOne given all (slice_index needs place) (slice_index (portions given all before needs) place)
+each_near given all before [] place some = record {
+  above = omega (arith, mul-zero all, mul-zero given);
+  below = omega (arith, mul-zero all, mul-zero given);
+}
+each_near given all before (need ∷ needs) zero some = near given all before need some
+each_near given all before (need ∷ needs) (suc place) some = each_near given all (before + need) needs place some
+
+pub shares_by_need : SharesByNeed
+shares_by_need pool needs place some = each_near (min pool (sum needs)) (sum needs) 0 needs place some
+
+reserved_at : (pool : ℕ) (parts needs : List ℕ) (place : ℕ) → slice_index (reserved pool parts needs) place ≡ ahead pool (slice_index parts place) (slice_index needs place)
+reserved_at pool parts [] place = omega arith
+reserved_at pool [] (need ∷ needs) zero = omega (arith, mul-zero pool)
+reserved_at pool [] (need ∷ needs) (suc place) = reserved_at pool [] needs place
+reserved_at pool (part ∷ parts) (need ∷ needs) zero = refl
+reserved_at pool (part ∷ parts) (need ∷ needs) (suc place) = reserved_at pool parts needs place
+
+pub parts_go_ahead : PartsGoAhead
+parts_go_ahead below parts pool needs place =
+    let first = reserved pool parts needs in
+    omega (arith, get_or_plus first (below (pool - sum first) (less needs first)) place, reserved_at pool parts needs place)

@@ -1,0 +1,17 @@
+//! What each rule gives a place, as laws.
+ghost use Rattle.sharing.specs.Laws.{PartsGoAhead, ServesInOrder, SharesByNeed};
+
+/// By line order a place has the smaller of its need and what the needs before it leave of the pool.
+pub fn serves_in_order()
+    ensures { ServesInOrder }
+{}
+
+/// By proportion no share is 1 kWh or more away from its exact part of what is given.
+pub fn shares_by_need()
+    ensures { SharesByNeed }
+{}
+
+/// By parts a place has at least the smaller of its need and its part of the pool, whatever the rule below gives.
+pub fn parts_go_ahead()
+    ensures { PartsGoAhead }
+{}
