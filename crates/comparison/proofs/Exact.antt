@@ -11,16 +11,16 @@ use Rattle.comparison.specs.declared.question.Fault.{Fault}
 use Rattle.comparison.specs.declared.question.Wrong.{Wrong}
 use Rattle.comparison.specs.declared.question.Wrong.TheVariants.{LineFeed, Number, Missing, Surplus, Line}
 
-short_lacks : (mark n : ℕ) → (IsInRange 48 57 mark → ⊥) → Short n → Lacks mark (decimal n)
+pub short_lacks : (mark n : ℕ) → (IsInRange 48 57 mark → ⊥) → Short n → Lacks mark (decimal n)
 short_lacks mark n no_digit short = decimal_lacks mark n no_digit (omega arith)
 
-comma_no_digit : IsInRange 48 57 44 → ⊥
+pub comma_no_digit : IsInRange 48 57 44 → ⊥
 comma_no_digit digit = omega arith
 
 feed_no_digit : IsInRange 48 57 10 → ⊥
 feed_no_digit digit = omega arith
 
-row_lacks : (ns : List ℕ) → All Short ns → Lacks 10 (row ns)
+pub row_lacks : (ns : List ℕ) → All Short ns → Lacks 10 (row ns)
 row_lacks [] short = λ k h e. omega arith
 row_lacks (n ∷ []) short = short_lacks 10 n feed_no_digit (All-head Short n [] short)
 row_lacks (n ∷ m ∷ ns) short =
@@ -70,14 +70,14 @@ module _ (most before : ℕ) (rest after : List ℕ) (others : rest ≡ row afte
   no_cause Line field starts why = why
 
 -- a row does not stop
-row_goes_on : (line most : ℕ) (bs ns : List ℕ) (fault : Fault) → Stops line most bs fault → bs ≡ row ns → All Short ns → 1 ≤ length ns → length ns ≤ most → ⊥
+pub row_goes_on : (line most : ℕ) (bs ns : List ℕ) (fault : Fault) → Stops line most bs fault → bs ≡ row ns → All Short ns → 1 ≤ length ns → length ns ≤ most → ⊥
 row_goes_on line most bs ns fault stops is short some few =
     let split = row_split stops.before stops.rest ns stops.short short some (sym stops.text ∙ is) in
     no_cause most (length stops.before) stops.rest split.after split.others split.short split.some (omega (arith, split.counts)) fault.wrong stops.field stops.starts stops.because
 
 -- ---- the text
 
-begins_once : (bs first rest ns more : List ℕ) → All Short ns → Begins bs first rest → bs ≡ row ns ++ (10 ∷ more) → (first ≡ row ns) × (rest ≡ more)
+pub begins_once : (bs first rest ns more : List ℕ) → All Short ns → Begins bs first rest → bs ≡ row ns ++ (10 ∷ more) → (first ≡ row ns) × (rest ≡ more)
 begins_once bs first rest ns more short begins is =
     cut_once 10 first (row ns) rest more begins.1 (row_lacks ns short) (sym begins.0 ∙ is)
 

@@ -1,3 +1,4 @@
 mod Asking
 mod Exact
 mod Lines
+mod Once

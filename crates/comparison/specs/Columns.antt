@@ -17,7 +17,7 @@ pub record Holds (pool : ℕ) (shares : List ℕ) (column : Column) : Type 0 whe
   pub left_is : column.left ≡ pool - sum shares
 
 -- why there is no column of a rule
-abbrev pub NoColumn : ℕ → List ℕ → Problem → Type 0
+abbrev NoColumn : ℕ → List ℕ → Problem → Type 0
 NoColumn pool needs (At fault) = ⊥
 NoColumn pool needs (OfRule refusal) = answer pool needs (length needs) ≡ Err refusal
 NoColumn pool needs (OfParts refusal) = ⊥
@@ -29,7 +29,7 @@ ColumnMade rule pool needs (Ok column) = (answer pool needs (length needs) ≡ O
 ColumnMade rule pool needs (Err why) = NoColumn pool needs why
 
 -- why there is no column of a layer of parts
-abbrev pub NoPartsColumn : List ℕ → ℕ → List ℕ → Problem → Type 0
+abbrev NoPartsColumn : List ℕ → ℕ → List ℕ → Problem → Type 0
 NoPartsColumn parts pool needs (At fault) = ⊥
 NoPartsColumn parts pool needs (OfRule refusal) = answer pool needs (length needs) ≡ Err refusal
 NoPartsColumn parts pool needs (OfParts refusal) = parts_answer parts ≡ Err refusal

@@ -15,7 +15,7 @@ parts_text [] = []
 parts_text (part ∷ parts) = row (part ∷ parts) ++ (10 ∷ [])
 
 -- a line with the pool and its needs, and then the parts
-abbrev pub question_text : ℕ → List ℕ → List ℕ → List ℕ
+abbrev question_text : ℕ → List ℕ → List ℕ → List ℕ
 question_text pool needs parts = row (pool ∷ needs) ++ (10 ∷ parts_text parts)
 
 -- the text asks how to share this pool among these needs, with these parts: 1 to 32 needs and up to 32 parts,
@@ -52,6 +52,17 @@ pub data NoQuestion (bs : List ℕ) : Fault → Type 0 where
 -- no question has this text
 abbrev pub AsksNothing : List ℕ → Type 0
 AsksNothing bs = (pool : ℕ) (needs parts : List ℕ) → Asks bs pool needs parts → ⊥
+
+-- a text asks one question alone
+abbrev pub OneQuestion : Type 0
+OneQuestion =
+    (bs : List ℕ) (pool other : ℕ) (needs others parts further : List ℕ)
+    → Asks bs pool needs parts → Asks bs other others further
+    → (pool ≡ other) × (needs ≡ others) × (parts ≡ further)
+
+-- a text has one first fault alone
+abbrev pub OneFault : Type 0
+OneFault = (bs : List ℕ) (fault other : Fault) → NoQuestion bs fault → NoQuestion bs other → fault ≡ other
 
 -- why no question was read
 abbrev pub NoQuestionRead : List ℕ → Problem → Type 0

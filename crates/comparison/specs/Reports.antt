@@ -35,7 +35,7 @@ pub record Refuses (text : List ℕ) (why : Problem) : Type 0 where
   pub untabled : Untabled pool needs (padded parts) why
 
 -- why there is no table for the text
-abbrev pub Unreported : List ℕ → Problem → Type 0
+abbrev Unreported : List ℕ → Problem → Type 0
 Unreported text (At fault) = NoQuestionRead text (At fault)
 Unreported text (OfRule refusal) = Refuses text (OfRule refusal)
 Unreported text (OfParts refusal) = Refuses text (OfParts refusal)

@@ -12,7 +12,7 @@ abbrev share_at : Column → ℕ → ℕ
 share_at column place = slice_index (vec_items column.shares) place
 
 -- the shares of a place by the four rules
-abbrev pub shares_at : Comparison → ℕ → List ℕ
+abbrev shares_at : Comparison → ℕ → List ℕ
 shares_at c place =
     four (share_at c.line_order place) (share_at c.proportion place)
     (share_at c.parts_over_line_order place) (share_at c.parts_over_proportion place)

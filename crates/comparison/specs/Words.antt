@@ -16,7 +16,7 @@ wrong_words Surplus = codes "the line has more fields than it may"
 wrong_words Line = codes "the text goes on after its second line"
 
 -- a line by its number, and its field where one is meant
-abbrev pub place_told : ℕ → Option ℕ → List ℕ → List ℕ
+abbrev place_told : ℕ → Option ℕ → List ℕ → List ℕ
 place_told line (Some field) words = codes "line " ++ (decimal line ++ (codes ", field " ++ (decimal field ++ (codes ": " ++ words))))
 place_told line None words = codes "line " ++ (decimal line ++ (codes ": " ++ words))
 

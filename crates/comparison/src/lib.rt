@@ -2,6 +2,7 @@
 #![tactic(auto)]
 
 pub mod columns;
+pub mod law;
 pub mod problem;
 pub mod question;
 pub mod report;
