@@ -31,6 +31,7 @@ abbrev pub last_row : Comparison → List ℕ
 last_row c =
     codes "left,-," ++ four c.line_order.left c.proportion.left c.parts_over_line_order.left c.parts_over_proportion.left
 
+-- the line of names
 abbrev pub names_row : List ℕ
 names_row = codes "place,need,line_order,proportion,parts_over_line_order,parts_over_proportion\n"
 

@@ -20,6 +20,7 @@ abbrev place_told : ℕ → Option ℕ → List ℕ → List ℕ
 place_told line (Some field) words = codes "line " ++ (decimal line ++ (codes ", field " ++ (decimal field ++ (codes ": " ++ words))))
 place_told line None words = codes "line " ++ (decimal line ++ (codes ": " ++ words))
 
+-- a fault: its place, and what is wrong there
 abbrev pub fault_told : Fault → List ℕ
 fault_told fault = place_told fault.line fault.field (wrong_words fault.wrong)
 
