@@ -1,17 +1,22 @@
 -- A run and then more lines.
-use Rattle.std.proofs.Common.{◌≡◌, ◌∙◌, ℕ, suc, ◌+◌, ◌-◌, ◌<◌, List, [], ◌∷◌, ◌++◌, length, drop, None, Option, Some, Ok, Err, Result, append_assoc, ⊎_elim, refl, sym, ap, subst, arith}
+use Rattle.std.proofs.Common.{Bool, if◌then◌else◌, get_or, ◌≡◌, ◌∙◌, ℕ, suc, ◌+◌, ◌-◌, List, [], ◌∷◌, ◌++◌, length, drop, None, Option, Some, Ok, Err, Result, append_assoc, ⊎_elim, refl, sym, ap, subst, arith}
 use Rattle.std.proofs.lemmas.Bool.Decides.{eqb_tells}
 use Rattle.std.proofs.lemmas.List.{length-append}
 use Rattle.group.specs.declared.group.Group.{Group}
+use Rattle.fields.specs.Rows.{row}
+use Rattle.journal.specs.Lines.{LineRead, kind_of, others}
+use Rattle.journal.specs.Words.{kind_word}
 use Rattle.lines.specs.Names.{journal_names}
+use Rattle.lines.specs.declared.line.Line.{Line}
 use Rattle.output.specs.Lines.{output_names}
 use Rattle.steps.specs.Months.{Prices, Share}
-use Rattle.settlement.specs.Laws.{JournalsGoOn, RunsGoOn, RunsStop, WholeLines}
+use Rattle.settlement.specs.Laws.{JournalsGoOn, RunsGoOn, RunsStop}
 use Rattle.settlement.specs.Runs.{GoesOn, LinesRun, Ran, after_text, no_journal, no_room, runs}
 use Rattle.settlement.specs.Steps.{after_reading}
 use Rattle.settlement.specs.Texts.{text_lines, onto_first}
 use Rattle.settlement.specs.declared.fault.RunFault.{RunFault}
 use Rattle.settlement.specs.declared.fault.RunRefusal.{RunRefusal}
+use Rattle.settlement.specs.declared.fault.RunRefusal.TheVariants as refused
 
 -- what is run goes on behind its text, where what is behind it does
 further : (number : ℕ) (group : Group) (step : Result (List ℕ × Group) RunRefusal) (Rest Longer : List ℕ → Group → Ran → Type 0) (ran later : Ran) → GoesOn number group step Rest ran → ran.fault ≡ None → ((text : List ℕ) (new : Group) (first : Ran) → ran ≡ after_text text first → Rest text new first → Longer text new (after_text first.text later)) → GoesOn number group step Longer (after_text ran.text later)
@@ -69,55 +74,75 @@ stop share prices (line ∷ lines) more room first group ran fault (reading, rea
 pub runs_stop : RunsStop
 runs_stop share prices room first lines more group ran fault is stops = stop share prices lines more room first group ran fault is stops
 
-some_on_first : (byte : ℕ) (lines : List (List ℕ)) → 0 < length (onto_first byte lines)
-some_on_first byte [] = omega arith
-some_on_first byte (line ∷ lines) = omega arith
+-- the line has its line feed
+abbrev Whole : List ℕ → Type 0
+Whole line = (front : List ℕ) × (line ≡ front ++ 10 ∷ [])
 
--- a text has a line
-some_lines : (text : List ℕ) → 0 < length text → 0 < length (text_lines text)
-some_lines [] some = absurd (omega arith)
-some_lines (byte ∷ text) some =
-    ⊎_elim (λ yes. rw yes.0 (omega arith)) (λ no. rw no.0 (some_on_first byte (text_lines text))) (eqb_tells byte 10)
+abbrev EachWhole : List (List ℕ) → Type 0
+EachWhole [] = Unit {0}
+EachWhole (line ∷ lines) = Whole line × EachWhole lines
 
-onto_more : (byte : ℕ) (lines more : List (List ℕ)) → 0 < length lines → onto_first byte (lines ++ more) ≡ onto_first byte lines ++ more
-onto_more byte [] more some = absurd (omega arith)
-onto_more byte (line ∷ lines) more some = refl
+-- a line that is read has its line feed
+read_whole : (bs : List ℕ) (line : Line) → LineRead bs (Ok line) → Whole bs
+read_whole bs line (writable, is) = (row (kind_word (kind_of line) ∷ others line), is)
 
--- the lines of whole lines and of a text behind them are the lines of both
-lines_more : (front more : List ℕ) → text_lines ((front ++ 10 ∷ []) ++ more) ≡ text_lines (front ++ 10 ∷ []) ++ text_lines more
-lines_more [] more = refl
-lines_more (byte ∷ front) more =
+-- a step that is gone through goes on
+went_on : (number : ℕ) (group : Group) (step : Result (List ℕ × Group) RunRefusal) (Rest : List ℕ → Group → Ran → Type 0) (ran : Ran) (X : Type 0) → GoesOn number group step Rest ran → ran.fault ≡ None → ((text : List ℕ) (new : Group) (first : Ran) → ran ≡ after_text text first → Rest text new first → X) → X
+went_on number group (Ok done) Rest ran X (first, rest, comes) ends on = on done.0 done.1 first comes rest
+went_on number group (Err refusal) Rest ran X stops ends on =
+    let never : ◌≡◌ {A = Option RunFault} (Some (record { line = number; refusal = refusal })) None = ap (λ (r : Ran). r.fault) (sym stops) ∙ ends in
+    absurd cc
+
+-- lines that are run to their end have their line feeds
+gone_through : (share : Share) (prices : ℕ → Prices) (lines : List (List ℕ)) (room first : ℕ) (group : Group) (ran : Ran) → LinesRun share prices room first lines group ran → ran.fault ≡ None → EachWhole lines
+gone_through share prices [] room first group ran is ends = tt
+gone_through share prices (bs ∷ lines) room first group ran (Ok line, read, goes) ends = (
+  read_whole bs line read,
+  went_on first group (after_reading share prices room (Ok line) group)
+      (λ text new rest. LinesRun share prices (room - length text) (first + 1) lines new rest) ran (EachWhole lines) goes ends
+      (λ text new rest comes run_rest.
+      gone_through share prices lines (room - length text) (first + 1) new rest run_rest (sym (ap (λ (r : Ran). r.fault) comes) ∙ ends)),
+)
+gone_through share prices (bs ∷ lines) room first group ran (Err refusal, read, stops) ends =
+    let never : ◌≡◌ {A = Option RunFault} (Some (record { line = first; refusal = refused.Line refusal })) None = ap (λ (r : Ran). r.fault) (sym stops) ∙ ends in
+    absurd cc
+
+-- the front of a line that has its line feed is no line feed, so what follows it has it
+whole_behind : (byte : ℕ) (line : List ℕ) → (byte ≡ 10 → ⊥) → Whole (byte ∷ line) → Whole line
+whole_behind byte line other ([], is) = absurd (other (ap (λ l. get_or l 0 0) is))
+whole_behind byte line other (first ∷ front, is) = (front, ap (drop 1) is)
+
+no_whole : Whole [] → ⊥
+no_whole (front, is) = absurd (omega (arith, ap length is, length-append front (10 ∷ [])))
+
+-- a byte before lines of which each has its line feed, and before more lines
+onto_more : (byte : ℕ) (lines more both : List (List ℕ)) → (byte ≡ 10 → ⊥) → EachWhole (onto_first byte lines) → (EachWhole lines → both ≡ lines ++ more) → onto_first byte both ≡ onto_first byte lines ++ more
+onto_more byte [] more both other whole on = absurd (no_whole (whole_behind byte [] other whole.0))
+onto_more byte (line ∷ lines) more both other whole on = ap (onto_first byte) (on (whole_behind byte line other whole.0, whole.1))
+
+-- lines that have their line feeds and the lines of a text behind them are the lines of both
+lines_more : (text more : List ℕ) → EachWhole (text_lines text) → text_lines (text ++ more) ≡ text_lines text ++ text_lines more
+lines_more [] more whole = refl
+lines_more (byte ∷ text) more whole =
+    let either = λ (test : Bool). if test then (byte ∷ []) ∷ text_lines text else onto_first byte (text_lines text) in
     ⊎_elim
-    (λ yes. rw yes.0 (ap (λ ls. (byte ∷ []) ∷ ls) (lines_more front more)))
-    (λ no. rw no.0 (ap (onto_first byte) (lines_more front more) ∙ onto_more byte (text_lines (front ++ 10 ∷ [])) (text_lines more) (some_lines (front ++ 10 ∷ []) (omega (arith, length-append front (10 ∷ []))))))
+    (λ yes. rw yes.0 (ap (λ ls. (byte ∷ []) ∷ ls) (lines_more text more (subst (λ test. EachWhole (either test)) yes.0 whole).1)))
+    (λ no. rw no.0 (onto_more byte (text_lines text) (text_lines more) (text_lines (text ++ more)) no.1 (subst (λ test. EachWhole (either test)) no.0 whole) (lines_more text more)))
     (eqb_tells byte 10)
 
--- the line of names is one line
-names_first : (body : List ℕ) → text_lines (journal_names ++ body) ≡ journal_names ∷ text_lines body
-names_first body = refl
-
--- so are those of a body
-body_more : (journal body more : List ℕ) → WholeLines journal → journal ≡ journal_names ++ body → text_lines (body ++ more) ≡ text_lines body ++ text_lines more
-body_more journal body more (front, whole) begins =
-    let joined : text_lines (journal ++ more) ≡ text_lines journal ++ text_lines more =
-    ap (λ j. text_lines (j ++ more)) whole ∙ (lines_more front more ∙ ap (λ j. text_lines j ++ text_lines more) (sym whole)) in
-    let named : text_lines ((journal_names ++ body) ++ more) ≡ text_lines (journal_names ++ body) ++ text_lines more =
-    subst (λ j. text_lines (j ++ more) ≡ text_lines j ++ text_lines more) begins joined in
-    ap (drop 1) named
-
 pub journals_go_on : JournalsGoOn
-journals_go_on share prices room journal more group ran later whole short (no_journal none) ends on =
+journals_go_on share prices room journal more group ran later short (no_journal none) ends on =
     let never : ran.fault ≡ None = ends in
     absurd cc
-journals_go_on share prices room journal more group ran later whole short (no_room body begins small) ends on =
+journals_go_on share prices room journal more group ran later short (no_room body begins small) ends on =
     let never : ran.fault ≡ None = ends in
     absurd cc
-journals_go_on share prices room journal more group ran later whole short (runs body first begins long lines) ends on =
+journals_go_on share prices room journal more group ran later short (runs body first begins long lines) ends on =
     let left : room - length (output_names ++ first.text) ≡ (room - length output_names) - length first.text = omega (arith, length-append output_names first.text) in
     let counted : length (text_lines journal) + 1 ≡ 2 + length (text_lines body) = omega (arith, ap (λ j. length (text_lines j)) begins.1) in
     let from_there = subst (λ n. LinesRun share prices n (length (text_lines journal) + 1) (text_lines more) first.group later) left on in
     let numbered = subst (λ n. LinesRun share prices ((room - length output_names) - length first.text) n (text_lines more) first.group later) counted from_there in
     let both = go_on share prices (text_lines body) (text_lines more) (room - length output_names) 2 group first later lines ends numbered in
-    let body_lines = sym (body_more journal body more whole begins.1) in
+    let body_lines = sym (lines_more body more (gone_through share prices (text_lines body) (room - length output_names) 2 group first lines ends)) in
     runs (body ++ more) (after_text first.text later) (short, ap (λ j. j ++ more) begins.1 ∙ append_assoc journal_names body more) long
     (subst (λ ls. LinesRun share prices (room - length output_names) 2 ls group (after_text first.text later)) body_lines both)

@@ -1,5 +1,5 @@
 -- What holds of every run, by the lines alone.
-use Rattle.std.specs.Prelude.{◌≡◌, ℕ, ◌<◌, ◌+◌, ◌-◌, ◌≤◌, List, [], ◌∷◌, ◌++◌, length, None, Option, Some, IsSomeAnd, ◌⊎◌}
+use Rattle.std.specs.Prelude.{◌≡◌, ℕ, ◌<◌, ◌+◌, ◌-◌, ◌≤◌, List, [], ◌++◌, length, None, Option, Some, IsSomeAnd, ◌⊎◌}
 use Rattle.std.specs.List.{concat}
 use Rattle.balance.specs.Histories.{Event}
 use Rattle.group.specs.declared.group.Group.{Group}
@@ -61,15 +61,11 @@ RunsStop =
     → LinesRun share prices room first lines group ran → ran.fault ≡ Some fault
     → LinesRun share prices room first (lines ++ more) group ran
 
--- the text is whole lines, of which the last one too has its line feed
-abbrev pub WholeLines : List ℕ → Type 0
-WholeLines text = (front : List ℕ) × (text ≡ front ++ 10 ∷ [])
-
--- a journal of whole lines that is run to its end, and then more lines, are one run of the longer journal
+-- a journal that is run to its end, and then more lines, are one run of the longer journal
 abbrev pub JournalsGoOn : Type 0
 JournalsGoOn =
     (share : Share) (prices : ℕ → Prices) (room : ℕ) (journal more : List ℕ) (group : Group) (ran later : Ran)
-    → WholeLines journal → length (journal ++ more) ≤ 65536
+    → length (journal ++ more) ≤ 65536
     → RunsOver share prices journal room group ran → ran.fault ≡ None
     → LinesRun share prices (room - length ran.text) (length (text_lines journal) + 1) (text_lines more) ran.group later
     → RunsOver share prices (journal ++ more) room group (after_text ran.text later)

@@ -16,7 +16,7 @@ pub fn runs_stop()
     ensures { RunsStop }
 {}
 
-/// A journal of whole lines that is run to its end, and then more lines, are one run of the longer journal, unless that is too long.
+/// A journal that is run to its end, and then more lines, are one run of the longer journal, unless that is too long.
 pub fn journals_go_on()
     ensures { JournalsGoOn }
 {}
