@@ -53,14 +53,14 @@ pub data NoQuestion (bs : List ℕ) : Fault → Type 0 where
 abbrev pub AsksNothing : List ℕ → Type 0
 AsksNothing bs = (pool : ℕ) (needs parts : List ℕ) → Asks bs pool needs parts → ⊥
 
--- a text asks one question alone
+-- a text asks at most one question
 abbrev pub OneQuestion : Type 0
 OneQuestion =
     (bs : List ℕ) (pool other : ℕ) (needs others parts further : List ℕ)
     → Asks bs pool needs parts → Asks bs other others further
     → (pool ≡ other) × (needs ≡ others) × (parts ≡ further)
 
--- a text has one first fault alone
+-- a text has at most one first fault
 abbrev pub OneFault : Type 0
 OneFault = (bs : List ℕ) (fault other : Fault) → NoQuestion bs fault → NoQuestion bs other → fault ≡ other
 

@@ -61,7 +61,7 @@ RunsStop =
     → LinesRun share prices room first lines group ran → ran.fault ≡ Some fault
     → LinesRun share prices room first (lines ++ more) group ran
 
--- a journal that is run to its end, and then more lines, are one run of the longer journal
+-- a journal that is run to its end, and then more lines, are one run of the longer journal, unless that is too long
 abbrev pub JournalsGoOn : Type 0
 JournalsGoOn =
     (share : Share) (prices : ℕ → Prices) (room : ℕ) (journal more : List ℕ) (group : Group) (ran later : Ran)

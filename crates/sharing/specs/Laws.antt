@@ -19,7 +19,7 @@ SharesByNeed =
     (pool : ℕ) (needs : List ℕ) (place : ℕ) → 0 < sum needs
     → WithinOne (min pool (sum needs)) (sum needs) (slice_index needs place) (slice_index (proportion pool needs) place)
 
--- by parts, over whatever rule, a place has at least the smaller of its need and its part of the pool
+-- by parts, over whatever rule, a place has at least the smaller of its need and its part of the pool, rounded down
 abbrev pub PartsGoAhead : Type 0
 PartsGoAhead =
     (below : ℕ → List ℕ → List ℕ) (parts : List ℕ) (pool : ℕ) (needs : List ℕ) (place : ℕ)

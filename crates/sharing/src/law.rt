@@ -11,7 +11,7 @@ pub fn shares_by_need()
     ensures { SharesByNeed }
 {}
 
-/// By parts a place has at least the smaller of its need and its part of the pool, whatever the rule below gives.
+/// By parts a place has at least the smaller of its need and its part of the pool, rounded down, whatever the rule below gives.
 pub fn parts_go_ahead()
     ensures { PartsGoAhead }
 {}

@@ -26,6 +26,10 @@ abbrev pub InForce : ℕ → List Row → Option Row → Type 0
 InForce month rows (Some row) = LastBegun month rows row
 InForce month rows None = All (λ row. has_begun month row ≡ false) rows
 
+-- the row in force in any month is so told, whatever the rows
+abbrev pub InForceByRows : Type 0
+InForceByRows = (month : ℕ) (rows : List Row) → InForce month rows (in_force month rows)
+
 -- the stored price by the row in force, which is 0 where there is none
 abbrev pub scheduled : Option Row → Service → Class → ℕ
 scheduled (Some row) service class = stored row.prices service class

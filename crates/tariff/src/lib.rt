@@ -3,6 +3,7 @@
 
 pub mod class;
 pub mod fixed;
+pub mod law;
 pub mod prices;
 pub mod row;
 pub mod schedule;

@@ -1,7 +1,7 @@
 //! The tariff that changes from month to month.
 ghost use Rattle.std.specs.Prelude.{◌≡◌};
 ghost use Rattle.tariff.specs.Charges.{capped, capped_bounded};
-ghost use Rattle.tariff.specs.Schedules.{InForce, in_force, scheduled};
+ghost use Rattle.tariff.specs.Schedules.{in_force, scheduled};
 
 use crate::class::Class;
 use crate::row::Row;
@@ -19,8 +19,7 @@ pub struct Schedule<'a> {
 impl<'a> Schedule<'a> {
     // The last row that has begun, if any has.
     fn row_in_force(&self, month: Month) -> Option<Row>
-        ensures found { result ≡ in_force month self.now.rows.now }
-        ensures last { InForce month self.now.rows.now result }
+        ensures { result ≡ in_force month self.now.rows.now }
     {
         self.rows
             .iter()
