@@ -61,7 +61,7 @@ impl<R: SharingRule, T: Tariff> Book<R, T> {
 
     /// The balance that a zone carries, in kWh, which is none before the opening.
     pub fn carried(&self, zone: Zone) -> u64
-        ensures balance { result ≡ in_zone self.now.group.carried zone }
+        ensures kwh { result ≡ in_zone self.now.group.carried zone }
         ensures most { result ≤ most_carried self.now.group.phase }
     {
         self.group.carried.in_zone(zone)

@@ -72,13 +72,13 @@ pub const TARIFF: FixedTariff = FixedTariff {
 /// The book of most tests.
 pub type PlainBook = Book<Proportion, FixedTariff>;
 
-/// A book that was never opened.
-pub fn blank() -> PlainBook {
+// A book that was never opened.
+pub(crate) fn blank() -> PlainBook {
     Book::new(Proportion, TARIFF)
 }
 
-/// What a group opens with for a member whose registers all stand at one value.
-pub fn record(capacity: u32, class: Class, standing: u32) -> OpeningRecord {
+// What a group opens with for a member whose registers all stand at one value.
+pub(crate) fn record(capacity: u32, class: Class, standing: u32) -> OpeningRecord {
     let flows = ByFlow {
         consumed: standing,
         delivered: standing,
@@ -90,8 +90,8 @@ pub fn record(capacity: u32, class: Class, standing: u32) -> OpeningRecord {
     OpeningRecord::new(capacity, class, standings)
 }
 
-/// Opens a book in October 2024 with three members, the first of whom is the holder.
-pub fn open<R: SharingRule, T: Tariff>(rt: &impl Abort, book: &mut Book<R, T>, number: u32) {
+// Opens a book in October 2024 with three members, the first of whom is the holder.
+pub(crate) fn open<R: SharingRule, T: Tariff>(rt: &impl Abort, book: &mut Book<R, T>, number: u32) {
     let records = [
         record(100, Class::Household, 1_000),
         record(0, Class::Other, 0),
@@ -100,8 +100,8 @@ pub fn open<R: SharingRule, T: Tariff>(rt: &impl Abort, book: &mut Book<R, T>, n
     assert_eq!(rt; book.open(number, OCTOBER, 0, &records), Ok(()));
 }
 
-/// A book that was opened so.
-pub fn opened(rt: &impl Abort, number: u32) -> PlainBook {
+// A book that was opened so.
+pub(crate) fn opened(rt: &impl Abort, number: u32) -> PlainBook {
     let mut book = blank();
     open(rt, &mut book, number);
     book
@@ -111,8 +111,8 @@ fn at(place: usize, zone: Zone, flow: Flow) -> MemberRegister {
     MemberRegister { place, zone, flow }
 }
 
-/// A reading of what a member consumed.
-pub fn consumed(place: usize, zone: Zone, day: Day, value: u32) -> Entry {
+// A reading of what a member consumed.
+pub(crate) fn consumed(place: usize, zone: Zone, day: Day, value: u32) -> Entry {
     Entry::Reading {
         register: at(place, zone, Flow::Consumed),
         day,
@@ -120,8 +120,8 @@ pub fn consumed(place: usize, zone: Zone, day: Day, value: u32) -> Entry {
     }
 }
 
-/// A reading of what a member delivered.
-pub fn delivered(place: usize, zone: Zone, day: Day, value: u32) -> Entry {
+// A reading of what a member delivered.
+pub(crate) fn delivered(place: usize, zone: Zone, day: Day, value: u32) -> Entry {
     Entry::Reading {
         register: at(place, zone, Flow::Delivered),
         day,
@@ -129,8 +129,8 @@ pub fn delivered(place: usize, zone: Zone, day: Day, value: u32) -> Entry {
     }
 }
 
-/// A change of the meter that counts a flow by night.
-pub fn change(place: usize, flow: Flow, day: Day, value: u32, start: u32) -> Entry {
+// A change of the meter that counts a flow by night.
+pub(crate) fn change(place: usize, flow: Flow, day: Day, value: u32, start: u32) -> Entry {
     Entry::Change {
         register: at(place, Zone::Night, flow),
         day,
@@ -139,21 +139,21 @@ pub fn change(place: usize, flow: Flow, day: Day, value: u32, start: u32) -> Ent
     }
 }
 
-/// A correction of what a member consumed.
-pub fn correction(place: usize, zone: Zone, quantity: i32) -> Entry {
+// A correction of what a member consumed.
+pub(crate) fn correction(place: usize, zone: Zone, quantity: i32) -> Entry {
     Entry::Correction {
         register: at(place, zone, Flow::Consumed),
         quantity,
     }
 }
 
-/// A payment.
-pub fn payment(place: usize, drams: u32) -> Entry {
+// A payment.
+pub(crate) fn payment(place: usize, drams: u32) -> Entry {
     Entry::Payment { place, drams }
 }
 
-/// The number of the refusal that a call answered, if it was refused.
-pub fn number(answer: Result<(), BookRefusal>) -> Option<u8> {
+// The number of the refusal that a call answered, if it was refused.
+pub(crate) fn number(answer: Result<(), BookRefusal>) -> Option<u8> {
     answer.err().map(|refusal| refusal.number())
 }
 
@@ -174,8 +174,8 @@ pub struct Answers {
     pub records: [Result<Member, BookRefusal>; 4],
 }
 
-/// Asks a book every question.
-pub fn seen<R: SharingRule, T: Tariff>(book: &Book<R, T>) -> Answers {
+// Asks a book every question.
+pub(crate) fn seen<R: SharingRule, T: Tariff>(book: &Book<R, T>) -> Answers {
     Answers {
         number: book.number(),
         holder: book.holder(),
@@ -196,8 +196,8 @@ pub fn seen<R: SharingRule, T: Tariff>(book: &Book<R, T>) -> Answers {
     }
 }
 
-/// Makes an entry that is to be taken, or refused by a number with the book left as it was.
-pub fn enter<R: SharingRule, T: Tariff>(
+// Makes an entry that is to be taken, or refused by a number with the book left as it was.
+pub(crate) fn enter<R: SharingRule, T: Tariff>(
     rt: &impl Abort,
     book: &mut Book<R, T>,
     entry: Entry,
@@ -211,8 +211,8 @@ pub fn enter<R: SharingRule, T: Tariff>(
     }
 }
 
-/// Makes entries that are all to be taken.
-pub fn enter_all<R: SharingRule, T: Tariff>(
+// Makes entries that are all to be taken.
+pub(crate) fn enter_all<R: SharingRule, T: Tariff>(
     rt: &impl Abort,
     book: &mut Book<R, T>,
     entries: &[Entry],
@@ -222,8 +222,8 @@ pub fn enter_all<R: SharingRule, T: Tariff>(
     }
 }
 
-/// Draws where the slice has room.
-pub fn draw<R: SharingRule, T: Tariff>(
+// Draws where the slice has room.
+pub(crate) fn draw<R: SharingRule, T: Tariff>(
     rt: &impl Abort,
     book: &Book<R, T>,
     lines: &mut [Bill],
@@ -231,8 +231,8 @@ pub fn draw<R: SharingRule, T: Tariff>(
     book.draw(lines).expect(rt, "a drawing")
 }
 
-/// Draws where that is to be refused, and answers the refusal's number.
-pub fn refused_drawing(book: &PlainBook, lines: &mut [Bill]) -> Option<u8> {
+// Draws where that is to be refused, and answers the refusal's number.
+pub(crate) fn refused_drawing(book: &PlainBook, lines: &mut [Bill]) -> Option<u8> {
     match book.draw(lines) {
         Ok(draft) => {
             book.withdraw(draft);
@@ -242,14 +242,17 @@ pub fn refused_drawing(book: &PlainBook, lines: &mut [Bill]) -> Option<u8> {
     }
 }
 
-/// Checks a draft and gives it back.
-pub fn check(rt: &impl Abort, book: &PlainBook, draft: Draft, expected: bool) -> Draft {
+// Checks a draft and gives it back.
+pub(crate) fn check(rt: &impl Abort, book: &PlainBook, draft: Draft, expected: bool) -> Draft {
     let (draft, current) = book.check(draft);
     assert_eq!(rt; current, expected);
     draft
 }
 
-/// The account of the member at a place.
-pub fn account<R: SharingRule, T: Tariff>(book: &Book<R, T>, place: usize) -> Option<Account> {
+// The account of the member at a place.
+pub(crate) fn account<R: SharingRule, T: Tariff>(
+    book: &Book<R, T>,
+    place: usize,
+) -> Option<Account> {
     book.member(place).ok().map(|member| member.account)
 }

@@ -23,8 +23,8 @@ fn reading(place: usize, zone: Zone, flow: Flow, value: u32) -> Entry {
     }
 }
 
-/// The entries of October, in the order in which they are made.
-pub fn october() -> [Entry; 11] {
+// The entries of October, in the order in which they are made.
+pub(crate) fn october() -> [Entry; 11] {
     [
         // By day the mill consumes 40 kWh and delivers 340, so 300 are there to be shared.
         reading(MILL, Zone::Day, Flow::Consumed, 1_040),
@@ -56,8 +56,8 @@ pub fn october() -> [Entry; 11] {
     ]
 }
 
-/// A reading on 1 November which is below where the register stands.
-pub fn too_low() -> Entry {
+// A reading on 1 November which is below where the register stands.
+pub(crate) fn too_low() -> Entry {
     Entry::Reading {
         register: register(FAMILY, Zone::Day, Flow::Consumed),
         day: LAST + 1,

@@ -23,8 +23,8 @@ pub const HOLDER: usize = MILL;
 /// The members' names, in order of place.
 pub const NAMES: [&str; MEMBERS] = ["mill", "family", "pensioner"];
 
-/// What the group opens with: each member's capacity in kW, its class, and its registers in kWh.
-pub fn records() -> [OpeningRecord; MEMBERS] {
+// What the group opens with: each member's capacity in kW, its class, and its registers in kWh.
+pub(crate) fn records() -> [OpeningRecord; MEMBERS] {
     [
         OpeningRecord::new(100, Class::Other, registers((1_000, 500), (700, 400))),
         OpeningRecord::new(0, Class::Household, registers((2_000, 0), (1_500, 0))),

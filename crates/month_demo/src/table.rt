@@ -7,8 +7,8 @@ use sharing::rule::SharingRule;
 use std::io;
 use tariff::tariff::Tariff;
 
-/// Prints a line for each member.
-pub fn print_bills(rt: &impl Print, lines: &[Bill]) -> io::Result<()> {
+// Prints a line for each member.
+pub(crate) fn print_bills(rt: &impl Print, lines: &[Bill]) -> io::Result<()> {
     println!(rt; "October 2024     billed kWh    covered kWh         drams")?;
     println!(rt; "member           day  night     day  night    bill    debt")?;
     for (name, line) in NAMES.iter().zip(lines) {
@@ -29,8 +29,8 @@ fn print_bill(rt: &impl Print, name: &str, line: &Bill) -> io::Result<()> {
     println!(rt; "  {drams:>6}  {debt:>6}")
 }
 
-/// Prints what the pools hold for the next month.
-pub fn print_carried<R: SharingRule, T: Tariff>(
+// Prints what the pools hold for the next month.
+pub(crate) fn print_carried<R: SharingRule, T: Tariff>(
     rt: &impl Print,
     book: &Book<R, T>,
 ) -> io::Result<()> {

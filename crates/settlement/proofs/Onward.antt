@@ -2,6 +2,8 @@
 use Rattle.std.proofs.Common.{Bool, if◌then◌else◌, get_or, ◌≡◌, ◌∙◌, ℕ, suc, ◌+◌, ◌-◌, List, [], ◌∷◌, ◌++◌, length, drop, None, Option, Some, Ok, Err, Result, append_assoc, ⊎_elim, refl, sym, ap, subst, arith}
 use Rattle.std.proofs.lemmas.Bool.Decides.{eqb_tells}
 use Rattle.std.proofs.lemmas.List.{length-append}
+use Rattle.std.proofs.lemmas.List.Elements.{All-cons, All-head, All-nil, All-tail}
+use Rattle.std.specs.List.{All}
 use Rattle.group.specs.declared.group.Group.{Group}
 use Rattle.fields.specs.Rows.{row}
 use Rattle.journal.specs.Lines.{LineRead, kind_of, others}
@@ -78,10 +80,6 @@ runs_stop share prices room first lines more group ran fault is stops = stop sha
 abbrev Whole : List ℕ → Type 0
 Whole line = (front : List ℕ) × (line ≡ front ++ 10 ∷ [])
 
-abbrev EachWhole : List (List ℕ) → Type 0
-EachWhole [] = Unit {0}
-EachWhole (line ∷ lines) = Whole line × EachWhole lines
-
 -- a line that is read has its line feed
 read_whole : (bs : List ℕ) (line : Line) → LineRead bs (Ok line) → Whole bs
 read_whole bs line (writable, is) = (row (kind_word (kind_of line) ∷ others line), is)
@@ -94,15 +92,14 @@ went_on number group (Err refusal) Rest ran X stops ends on =
     absurd cc
 
 -- lines that are run to their end have their line feeds
-gone_through : (share : Share) (prices : ℕ → Prices) (lines : List (List ℕ)) (room first : ℕ) (group : Group) (ran : Ran) → LinesRun share prices room first lines group ran → ran.fault ≡ None → EachWhole lines
-gone_through share prices [] room first group ran is ends = tt
-gone_through share prices (bs ∷ lines) room first group ran (Ok line, read, goes) ends = (
-  read_whole bs line read,
-  went_on first group (after_reading share prices room (Ok line) group)
-      (λ text new rest. LinesRun share prices (room - length text) (first + 1) lines new rest) ran (EachWhole lines) goes ends
-      (λ text new rest comes run_rest.
-      gone_through share prices lines (room - length text) (first + 1) new rest run_rest (sym (ap (λ (r : Ran). r.fault) comes) ∙ ends)),
-)
+gone_through : (share : Share) (prices : ℕ → Prices) (lines : List (List ℕ)) (room first : ℕ) (group : Group) (ran : Ran) → LinesRun share prices room first lines group ran → ran.fault ≡ None → All Whole lines
+gone_through share prices [] room first group ran is ends = All-nil Whole
+gone_through share prices (bs ∷ lines) room first group ran (Ok line, read, goes) ends =
+    All-cons Whole bs lines (read_whole bs line read)
+    (went_on first group (after_reading share prices room (Ok line) group)
+    (λ text new rest. LinesRun share prices (room - length text) (first + 1) lines new rest) ran (All Whole lines) goes ends
+    (λ text new rest comes run_rest.
+    gone_through share prices lines (room - length text) (first + 1) new rest run_rest (sym (ap (λ (r : Ran). r.fault) comes) ∙ ends)))
 gone_through share prices (bs ∷ lines) room first group ran (Err refusal, read, stops) ends =
     let never : ◌≡◌ {A = Option RunFault} (Some (record { line = first; refusal = refused.Line refusal })) None = ap (λ (r : Ran). r.fault) (sym stops) ∙ ends in
     absurd cc
@@ -116,18 +113,18 @@ no_whole : Whole [] → ⊥
 no_whole (front, is) = absurd (omega (arith, ap length is, length-append front (10 ∷ [])))
 
 -- a byte before lines of which each has its line feed, and before more lines
-onto_more : (byte : ℕ) (lines more both : List (List ℕ)) → (byte ≡ 10 → ⊥) → EachWhole (onto_first byte lines) → (EachWhole lines → both ≡ lines ++ more) → onto_first byte both ≡ onto_first byte lines ++ more
-onto_more byte [] more both other whole on = absurd (no_whole (whole_behind byte [] other whole.0))
-onto_more byte (line ∷ lines) more both other whole on = ap (onto_first byte) (on (whole_behind byte line other whole.0, whole.1))
+onto_more : (byte : ℕ) (lines more both : List (List ℕ)) → (byte ≡ 10 → ⊥) → All Whole (onto_first byte lines) → (All Whole lines → both ≡ lines ++ more) → onto_first byte both ≡ onto_first byte lines ++ more
+onto_more byte [] more both other whole on = absurd (no_whole (whole_behind byte [] other (All-head Whole (byte ∷ []) [] whole)))
+onto_more byte (line ∷ lines) more both other whole on = ap (onto_first byte) (on (All-cons Whole line lines (whole_behind byte line other (All-head Whole (byte ∷ line) lines whole)) (All-tail Whole (byte ∷ line) lines whole)))
 
 -- lines that have their line feeds and the lines of a text behind them are the lines of both
-lines_more : (text more : List ℕ) → EachWhole (text_lines text) → text_lines (text ++ more) ≡ text_lines text ++ text_lines more
+lines_more : (text more : List ℕ) → All Whole (text_lines text) → text_lines (text ++ more) ≡ text_lines text ++ text_lines more
 lines_more [] more whole = refl
 lines_more (byte ∷ text) more whole =
     let either = λ (test : Bool). if test then (byte ∷ []) ∷ text_lines text else onto_first byte (text_lines text) in
     ⊎_elim
-    (λ yes. rw yes.0 (ap (λ ls. (byte ∷ []) ∷ ls) (lines_more text more (subst (λ test. EachWhole (either test)) yes.0 whole).1)))
-    (λ no. rw no.0 (onto_more byte (text_lines text) (text_lines more) (text_lines (text ++ more)) no.1 (subst (λ test. EachWhole (either test)) no.0 whole) (lines_more text more)))
+    (λ yes. rw yes.0 (ap (λ ls. (byte ∷ []) ∷ ls) (lines_more text more (All-tail Whole (byte ∷ []) (text_lines text) (subst (λ test. All Whole (either test)) yes.0 whole)))))
+    (λ no. rw no.0 (onto_more byte (text_lines text) (text_lines more) (text_lines (text ++ more)) no.1 (subst (λ test. All Whole (either test)) no.0 whole) (lines_more text more)))
     (eqb_tells byte 10)
 
 pub journals_go_on : JournalsGoOn

@@ -44,8 +44,8 @@ pub const PAYMENT: &[u8] = b"PAY,0,-,-,1,-,-\n";
 /// The book of the tests.
 pub type PlainBook = Book<Proportion, FixedTariff>;
 
-/// A tariff of the same prices for every class, in hundredths of a dram.
-pub fn tariff(energy: ByZone<u32>, distribution: u32, year_end: ByZone<u32>) -> FixedTariff {
+// A tariff of the same prices for every class, in hundredths of a dram.
+pub(crate) fn tariff(energy: ByZone<u32>, distribution: u32, year_end: ByZone<u32>) -> FixedTariff {
     let prices = ClassPrices {
         energy,
         distribution,
@@ -60,8 +60,8 @@ pub fn tariff(energy: ByZone<u32>, distribution: u32, year_end: ByZone<u32>) -> 
     }
 }
 
-/// 45.00 by day, 35.07 by night, 10.00 for distribution, and 20.00 and 15.00 at the year end.
-pub fn plain_tariff() -> FixedTariff {
+// 45.00 by day, 35.07 by night, 10.00 for distribution, and 20.00 and 15.00 at the year end.
+pub(crate) fn plain_tariff() -> FixedTariff {
     let energy = ByZone {
         day: 4_500,
         night: 3_507,
@@ -73,8 +73,8 @@ pub fn plain_tariff() -> FixedTariff {
     tariff(energy, 1_000, year_end)
 }
 
-/// What a group opens with for a member whose registers all stand at one value.
-pub fn record(capacity: u32, standing: u32) -> OpeningRecord {
+// What a group opens with for a member whose registers all stand at one value.
+pub(crate) fn record(capacity: u32, standing: u32) -> OpeningRecord {
     let flows = ByFlow {
         consumed: standing,
         delivered: standing,
@@ -86,13 +86,13 @@ pub fn record(capacity: u32, standing: u32) -> OpeningRecord {
     OpeningRecord::new(capacity, Class::Household, standings)
 }
 
-/// Three members, the second without capacity. The registers of the first two stand at 0.
-pub fn records() -> [OpeningRecord; 3] {
+// Three members, the second without capacity. The registers of the first two stand at 0.
+pub(crate) fn records() -> [OpeningRecord; 3] {
     [record(100, 0), record(0, 0), record(50, 9_000_000)]
 }
 
-/// A group of these members at the prices of the tests.
-pub fn setup(
+// A group of these members at the prices of the tests.
+pub(crate) fn setup(
     records: &[OpeningRecord],
     start: Month,
     holder: usize,
@@ -107,16 +107,16 @@ pub fn setup(
     }
 }
 
-/// A book of the first of the three members, so many of them.
-pub fn open(rt: &impl Abort, members: usize, start: Month, holder: usize) -> PlainBook {
+// A book of the first of the three members, so many of them.
+pub(crate) fn open(rt: &impl Abort, members: usize, start: Month, holder: usize) -> PlainBook {
     let records = records();
     setup(&records[..members.min(3)], start, holder)
         .open()
         .expect(rt, "an opening")
 }
 
-/// A journal of these lines.
-pub fn journal<R: AllocGlobal>(rt: &R, lines: &[&[u8]]) -> Result<Vec<u8>, Fail> {
+// A journal of these lines.
+pub(crate) fn journal<R: AllocGlobal>(rt: &R, lines: &[&[u8]]) -> Result<Vec<u8>, Fail> {
     let lines = lines.concat(rt.alloc())?;
     Ok([NAMES, lines.as_slice()].concat(rt.alloc())?)
 }
@@ -134,8 +134,8 @@ pub struct Answers {
     records: [Result<Member, BookRefusal>; 33],
 }
 
-/// Asks a book every question.
-pub fn seen(book: &PlainBook) -> Answers {
+// Asks a book every question.
+pub(crate) fn seen(book: &PlainBook) -> Answers {
     let mut records = [Err(BookRefusal::Place); 33];
     for place in 0..33 {
         records[place] = book.member(place);
@@ -155,8 +155,8 @@ pub fn seen(book: &PlainBook) -> Answers {
     }
 }
 
-/// The debt of the member at a place.
-pub fn debt(book: &PlainBook, place: usize) -> Option<i64> {
+// The debt of the member at a place.
+pub(crate) fn debt(book: &PlainBook, place: usize) -> Option<i64> {
     book.member(place).ok().map(|member| member.account.debt)
 }
 
@@ -175,8 +175,8 @@ pub struct Stop {
     pub layer: Layer,
 }
 
-/// A stop at a refusal of the text.
-pub fn of_text(line: usize, refusal: RunRefusal, number: u8) -> Stop {
+// A stop at a refusal of the text.
+pub(crate) fn of_text(line: usize, refusal: RunRefusal, number: u8) -> Stop {
     Stop {
         line,
         refusal,
@@ -186,8 +186,8 @@ pub fn of_text(line: usize, refusal: RunRefusal, number: u8) -> Stop {
     }
 }
 
-/// A stop at a refusal of the book.
-pub fn of_book(line: usize, refusal: BookRefusal, number: u8) -> Stop {
+// A stop at a refusal of the book.
+pub(crate) fn of_book(line: usize, refusal: BookRefusal, number: u8) -> Stop {
     Stop {
         line,
         refusal: RunRefusal::Book(refusal),
@@ -197,8 +197,8 @@ pub fn of_book(line: usize, refusal: BookRefusal, number: u8) -> Stop {
     }
 }
 
-/// The fault of a run is the one of a stop, whole and as told.
-pub fn check_fault(rt: &impl Abort, fault: Option<RunFault>, stop: Stop) {
+// The fault of a run is the one of a stop, whole and as told.
+pub(crate) fn check_fault(rt: &impl Abort, fault: Option<RunFault>, stop: Stop) {
     let fault = fault.expect(rt, "a fault");
     let Stop {
         line,
@@ -220,16 +220,16 @@ pub fn check_fault(rt: &impl Abort, fault: Option<RunFault>, stop: Stop) {
     assert_eq!(rt; fault.told(), told);
 }
 
-/// The output begins with these bytes, as many as were told written, and holds beyond them what it held before the run.
-pub fn check_output(rt: &impl Abort, out: &[u8], written: usize, text: &[u8]) {
+// The output begins with these bytes, as many as were told written, and holds beyond them what it held before the run.
+pub(crate) fn check_output(rt: &impl Abort, out: &[u8], written: usize, text: &[u8]) {
     assert_eq!(rt; written, text.len());
     assert!(rt; written <= out.len());
     assert!(rt; &out[..written] == text);
     assert!(rt; out[written..].iter().all(|byte| *byte == MARK));
 }
 
-/// Runs lines over a book to their end, and compares what is written behind the line of names.
-pub fn runs<R: Abort + AllocGlobal>(
+// Runs lines over a book to their end, and compares what is written behind the line of names.
+pub(crate) fn runs<R: Abort + AllocGlobal>(
     rt: &R,
     book: &mut PlainBook,
     lines: &[u8],
@@ -243,8 +243,8 @@ pub fn runs<R: Abort + AllocGlobal>(
     Ok(())
 }
 
-/// Runs a journal that is to stop at its first line, with the book and the output as they were.
-pub fn stops_at_line_1<R: Abort>(rt: &R, journal: &[u8], out: &mut [u8], stop: Stop) {
+// Runs a journal that is to stop at its first line, with the book and the output as they were.
+pub(crate) fn stops_at_line_1<R: Abort>(rt: &R, journal: &[u8], out: &mut [u8], stop: Stop) {
     let mut book = open(rt, 3, JANUARY, 0);
     let before = seen(&book);
     let Outcome { written, fault } = run(&mut book, journal, out);
@@ -253,9 +253,9 @@ pub fn stops_at_line_1<R: Abort>(rt: &R, journal: &[u8], out: &mut [u8], stop: S
     assert_eq!(rt; seen(&book), before);
 }
 
-/// Runs lines over a book, and the same lines with further ones over its like: that run stops at the first further line,
-/// with the book and the output as the lines before it left them.
-pub fn stops<R: Abort + AllocGlobal>(
+// Runs lines over a book, and the same lines with further ones over its like: that run stops at the first further line,
+// with the book and the output as the lines before it left them.
+pub(crate) fn stops<R: Abort + AllocGlobal>(
     rt: &R,
     start: Month,
     before: &[u8],
