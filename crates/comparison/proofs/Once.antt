@@ -1,4 +1,4 @@
--- A text asks one question alone, or has one first fault alone.
+-- A text asks at most one question, and has at most one first fault.
 use Rattle.std.proofs.Common.{◌≡◌, ℕ, suc, ◌+◌, ◌<◌, ◌≤◌, List, [], ◌∷◌, ◌++◌, length, Some, decimal, sym, refl, ap, ◌∙◌, ap₂, subst, ⊎_elim, append_assoc, arith, length-append, zero-add}
 use Rattle.std.specs.List.{All}
 use Rattle.std.proofs.lemmas.Fmt.{decimal_injective}
