@@ -14,7 +14,7 @@ use Rattle.ledger.specs.declared.zone.Zone.{Zone}
 use Rattle.ledger.specs.declared.zone.Zone.TheVariants.{Day, Night}
 use Rattle.group.specs.Members.{register_at}
 use Rattle.group.specs.declared.member.Member.{Member}
-use Rattle.steps.specs.Months.{Prices, bill_of, billed_member, posted}
+use Rattle.group.specs.Months.{Prices, bill_of, billed_member, posted}
 use Rattle.balance.proofs.Slots.{slot, tally_in}
 use Rattle.balance.specs.Postings.{charge}
 

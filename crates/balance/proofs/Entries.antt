@@ -24,9 +24,9 @@ use Rattle.group.specs.declared.group.Phase.{Phase}
 use Rattle.group.specs.declared.group.Phase.TheVariants.{Blank, Open, YearEnd, Over}
 use Rattle.group.specs.declared.member.Member.{Member}
 use Rattle.group.specs.declared.register.Register.{Register}
-use Rattle.steps.proofs.EntriesSound.{admitted_at}
-use Rattle.steps.specs.Entries.{place_of, recorded}
-use Rattle.steps.specs.Months.{Prices}
+use Rattle.group.proofs.EntriesSound.{admitted_at}
+use Rattle.group.specs.Entries.{place_of, recorded}
+use Rattle.group.specs.Months.{Prices}
 use Rattle.balance.proofs.Found.{found_after_set, sum_of-set}
 use Rattle.balance.proofs.Kept.{Kept, MonthKept}
 use Rattle.balance.proofs.Slots.{register_replaced, slot, tally_in, tally_replaced}

@@ -2,7 +2,7 @@
 use Rattle.std.proofs.Common.{◌≡◌, ℕ, zero, suc, ◌+◌, List, [], ◌∷◌, map, ℤ, pos, ◌+ℤ◌, set, get_or, length-set, slice_get, Some, ◌≢◌, ◌⊎◌, inl, inr, ⊎_elim, refl, ap, ◌∙◌, arith, add-zero}
 use Rattle.std.proofs.lemmas.Int.{ints}
 use Rattle.std.proofs.lemmas.Option.{slice_get-get_or, slice_get_within}
-use Rattle.steps.specs.Months.{by_place}
+use Rattle.group.specs.Months.{by_place}
 
 -- what the elements come to
 abbrev pub sum_of : {A : Type 0} → (A → ℤ) → List A → ℤ

@@ -15,8 +15,8 @@ use Rattle.group.specs.declared.group.Group.{Group}
 use Rattle.group.specs.declared.group.Phase.TheVariants.{Open}
 use Rattle.group.specs.declared.member.Member.{Member}
 use Rattle.tariff.specs.declared.class.Class.{Class}
-use Rattle.steps.specs.Drafts.{after_month, next_phase}
-use Rattle.steps.specs.Months.{Keeps, Prices, Share, bill_of, billed_member, by_place, carried_in, each_zone, lines_of, supplies_at}
+use Rattle.group.specs.Drafts.{after_month, next_phase}
+use Rattle.group.specs.Months.{Keeps, Prices, Share, bill_of, billed_member, by_place, carried_in, each_zone, lines_of, supplies_at}
 use Rattle.balance.proofs.Bills.{billed_class, billed_stands, billed_tally, billed_worth, line_charges}
 use Rattle.balance.proofs.Found.{by_place_at, found_by_place, sum_of}
 use Rattle.balance.proofs.Kept.{Kept, MonthKept}

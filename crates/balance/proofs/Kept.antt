@@ -9,7 +9,7 @@ use Rattle.group.specs.declared.group.Group.{Group}
 use Rattle.group.specs.declared.group.Phase.{Phase}
 use Rattle.group.specs.declared.group.Phase.TheVariants.{Blank, Open, YearEnd, Over}
 use Rattle.group.specs.declared.member.Member.{Member}
-use Rattle.steps.specs.Months.{Prices}
+use Rattle.group.specs.Months.{Prices}
 use Rattle.balance.proofs.Found.{sum_of}
 use Rattle.balance.proofs.Slots.{tally_in}
 use Rattle.balance.specs.Balances.{EnergyBalances}

@@ -12,8 +12,8 @@ use Rattle.ledger.specs.declared.zone.Zone.{Zone}
 use Rattle.ledger.specs.declared.zone.Zone.TheVariants.{Day, Night}
 use Rattle.group.specs.declared.group.Group.{Group}
 use Rattle.group.specs.declared.member.Member.{Member}
-use Rattle.steps.proofs.MonthsSound.{billed_length}
-use Rattle.steps.specs.Months.{Keeps, Share, Prices, bill_of, billed_in, by_place, carried_in, lines_of, net_in, nets_in, nets_of, pool_in, supplies_at}
+use Rattle.group.proofs.MonthsSound.{billed_length}
+use Rattle.group.specs.Months.{Keeps, Share, Prices, bill_of, billed_in, by_place, carried_in, lines_of, net_in, nets_in, nets_of, pool_in, supplies_at}
 use Rattle.balance.proofs.Bills.{line_billed}
 use Rattle.balance.proofs.Found.{sum_of}
 use Rattle.balance.proofs.Slots.{tally_in}

@@ -14,7 +14,7 @@ use Rattle.group.specs.declared.group.Group.{Group}
 use Rattle.group.specs.declared.group.Phase.TheVariants.{Open}
 use Rattle.group.specs.declared.member.Member.{Member}
 use Rattle.group.specs.declared.member.OpeningRecord.{OpeningRecord}
-use Rattle.steps.specs.Months.{Prices}
+use Rattle.group.specs.Months.{Prices}
 use Rattle.tariff.specs.declared.class.Class.TheVariants.{Other}
 use Rattle.balance.proofs.Found.{found_in_map, sum_of}
 use Rattle.balance.proofs.Kept.{Kept}

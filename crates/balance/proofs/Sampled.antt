@@ -6,8 +6,8 @@ use Rattle.sharing.specs.Rules.{line_order}
 use Rattle.group.specs.Members.{nobody}
 use Rattle.group.specs.Registers.{quantity}
 use Rattle.group.specs.declared.member.Member.{Member}
-use Rattle.steps.specs.Months.{bill_of, billed_member}
-use Rattle.steps.specs.Years.{year_figures}
+use Rattle.group.specs.Months.{bill_of, billed_member}
+use Rattle.group.specs.Years.{year_figures}
 use Rattle.balance.proofs.WholeRuns.{run_leads}
 use Rattle.balance.proofs.Theorem.{throughout}
 use Rattle.balance.specs.Balances.{BalancedThroughout}

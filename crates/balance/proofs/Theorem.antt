@@ -12,11 +12,11 @@ use Rattle.group.specs.declared.group.Group.{Group}
 use Rattle.group.specs.declared.group.Phase.{Phase}
 use Rattle.group.specs.declared.group.Phase.TheVariants.{Blank, Open, YearEnd as AtYearEnd, Over}
 use Rattle.group.specs.declared.refusal.BookRefusal.TheVariants as refused
-use Rattle.steps.specs.Books.{SameTerms, BookState, unopened}
-use Rattle.steps.specs.Drafts.{Stamp, after_month, drawable, is_current, issued}
-use Rattle.steps.specs.Entries.{open_month, place_of, recorded}
-use Rattle.steps.specs.Months.{Keeps, Prices, Share, billed_in, carried_in, lines_of}
-use Rattle.steps.specs.Years.{after_year, open_year, year_figures}
+use Rattle.group.specs.Books.{SameTerms, BookState, unopened}
+use Rattle.group.specs.Drafts.{Stamp, after_month, drawable, is_current, issued}
+use Rattle.group.specs.Entries.{open_month, place_of, recorded}
+use Rattle.group.specs.Months.{Keeps, Prices, Share, billed_in, carried_in, lines_of}
+use Rattle.group.specs.Years.{after_year, open_year, year_figures}
 use Rattle.balance.proofs.Entries.{entry_kept}
 use Rattle.balance.proofs.Issues.{carried_is, issue_kept}
 use Rattle.balance.proofs.Kept.{Kept, MonthKept}

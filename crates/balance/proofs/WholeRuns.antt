@@ -4,11 +4,11 @@ use Rattle.group.specs.Groups.{blank}
 use Rattle.group.specs.Results.{Answers, Follows}
 use Rattle.group.specs.declared.group.Group.{Group}
 use Rattle.group.specs.declared.refusal.BookRefusal.{BookRefusal}
-use Rattle.steps.specs.Books.{after_opening}
-use Rattle.steps.specs.Drafts.{issued}
-use Rattle.steps.specs.Entries.{after_entry}
-use Rattle.steps.specs.Months.{Prices, Share}
-use Rattle.steps.specs.Years.{closed}
+use Rattle.group.specs.Books.{after_opening}
+use Rattle.group.specs.Drafts.{issued}
+use Rattle.group.specs.Entries.{after_entry}
+use Rattle.group.specs.Months.{Prices, Share}
+use Rattle.group.specs.Years.{closed}
 use Rattle.balance.proofs.Theorem.{throughout}
 use Rattle.balance.specs.Histories.{Event, Opening, Entering, Happens, Issuing, Leads, Closing}
 use Rattle.balance.specs.Runs.{Call, Open, Enter, Draw, Check, Issue, Withdraw, Close, EveryRunBalances, answered, by_answer, by_step, run, run_on}

@@ -12,8 +12,8 @@ use Rattle.group.specs.declared.group.Group.{Group}
 use Rattle.group.specs.declared.group.Phase.TheVariants.{YearEnd as AtYearEnd}
 use Rattle.group.specs.declared.member.Member.{Member}
 use Rattle.tariff.specs.declared.class.Class.{Class}
-use Rattle.steps.specs.Months.{Prices}
-use Rattle.steps.specs.Years.{after_year, year_amount, credited, holder_of, next_year, year_figures}
+use Rattle.group.specs.Months.{Prices}
+use Rattle.group.specs.Years.{after_year, year_amount, credited, holder_of, next_year, year_figures}
 use Rattle.balance.proofs.Bills.{posted_worth}
 use Rattle.balance.proofs.Found.{found_after_set, found_before_set, sum_of-set_same}
 use Rattle.balance.proofs.Kept.{Kept, MonthKept}

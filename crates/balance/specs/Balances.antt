@@ -9,9 +9,9 @@ use Rattle.group.specs.Groups.{blank, member_at}
 use Rattle.group.specs.declared.group.Group.{Group}
 use Rattle.group.specs.declared.member.Member.{Member}
 use Rattle.group.specs.declared.refusal.BookRefusal.{BookRefusal}
-use Rattle.steps.specs.Books.{BookState}
-use Rattle.steps.specs.Drafts.{Stamp}
-use Rattle.steps.specs.Months.{Prices, Share}
+use Rattle.group.specs.Books.{BookState}
+use Rattle.group.specs.Drafts.{Stamp}
+use Rattle.group.specs.Months.{Prices, Share}
 use Rattle.balance.specs.Histories.{Happens, Event, Leads, Issuing}
 use Rattle.balance.specs.Postings.{Posting, billed, billed_by, entered_in, open_in, owed, paid_in, postings}
 

@@ -8,11 +8,11 @@ use Rattle.group.specs.Results.{Answers, Follows}
 use Rattle.group.specs.declared.group.Group.{Group}
 use Rattle.group.specs.declared.member.OpeningRecord.{OpeningRecord}
 use Rattle.group.specs.declared.refusal.BookRefusal.{BookRefusal}
-use Rattle.steps.specs.Books.{after_opening}
-use Rattle.steps.specs.Drafts.{Stamp, drawn, is_current, issued}
-use Rattle.steps.specs.Entries.{after_entry}
-use Rattle.steps.specs.Months.{Prices, Share}
-use Rattle.steps.specs.Years.{closed}
+use Rattle.group.specs.Books.{after_opening}
+use Rattle.group.specs.Drafts.{Stamp, drawn, is_current, issued}
+use Rattle.group.specs.Entries.{after_entry}
+use Rattle.group.specs.Months.{Prices, Share}
+use Rattle.group.specs.Years.{closed}
 
 -- a call with its answer; slices for lines are told by how many places they have, and the answers have the lines that are written
 pub data Event : Type 0 where

@@ -18,7 +18,7 @@ use Rattle.tariff.specs.declared.service.Service.TheVariants as service
 use Rattle.group.specs.Members.{class_of, standing_at}
 use Rattle.group.specs.Registers.{quantity}
 use Rattle.group.specs.declared.member.OpeningRecord.{OpeningRecord}
-use Rattle.steps.specs.Months.{Prices}
+use Rattle.group.specs.Months.{Prices}
 use Rattle.balance.specs.Histories.{Event, Opening, Entering, Drawing, Checking, Issuing, Withdrawing, Closing}
 
 -- what an accepted call posts

@@ -5,11 +5,11 @@ use Rattle.group.specs.Groups.{blank}
 use Rattle.group.specs.declared.group.Group.{Group}
 use Rattle.group.specs.declared.member.OpeningRecord.{OpeningRecord}
 use Rattle.group.specs.declared.refusal.BookRefusal.{BookRefusal}
-use Rattle.steps.specs.Books.{after_opening}
-use Rattle.steps.specs.Drafts.{Stamp, drawn, is_current, issued}
-use Rattle.steps.specs.Entries.{after_entry}
-use Rattle.steps.specs.Months.{Keeps, Prices, Share}
-use Rattle.steps.specs.Years.{closed}
+use Rattle.group.specs.Books.{after_opening}
+use Rattle.group.specs.Drafts.{Stamp, drawn, is_current, issued}
+use Rattle.group.specs.Entries.{after_entry}
+use Rattle.group.specs.Months.{Keeps, Prices, Share}
+use Rattle.group.specs.Years.{closed}
 use Rattle.balance.specs.Balances.{BalancedThroughout}
 use Rattle.balance.specs.Histories.{Event, Opening, Entering, Drawing, Checking, Issuing, Withdrawing, Closing}
 

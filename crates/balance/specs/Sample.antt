@@ -21,8 +21,8 @@ use Rattle.sharing.specs.Rules.{line_order}
 use Rattle.tariff.specs.declared.class.Class.{Class}
 use Rattle.tariff.specs.declared.class.Class.TheVariants.{Household, Other}
 use Rattle.tariff.specs.declared.service.Service.TheVariants as service
-use Rattle.steps.specs.Drafts.{Stamp}
-use Rattle.steps.specs.Months.{Prices}
+use Rattle.group.specs.Drafts.{Stamp}
+use Rattle.group.specs.Months.{Prices}
 use Rattle.balance.specs.Balances.{BalancedThroughout, EnergyBalances, MoneyBalances, NotBoth}
 use Rattle.balance.specs.Histories.{Event, Opening, Entering, Drawing, Checking, Issuing, Withdrawing, Closing}
 use Rattle.balance.specs.Runs.{Call, Open, Enter, Draw, Check, Issue, Withdraw, Close, run}

@@ -6,11 +6,11 @@ ghost use Rattle.ledger.specs.Zones.{in_zone};
 ghost use Rattle.group.specs.Groups.{blank, member_at};
 ghost use Rattle.group.specs.Results.{Answers, Follows};
 ghost use Rattle.group.specs.declared.group.Phase.TheVariants.{Blank};
-ghost use Rattle.steps.specs.Books.{SameTerms, after_opening};
-ghost use Rattle.steps.specs.Drafts.{after_drawing, after_issue, is_current};
-ghost use Rattle.steps.specs.Entries.{after_entry};
-ghost use Rattle.steps.specs.Sound.{most_carried, most_entries};
-ghost use Rattle.steps.specs.Years.{closed, previewed};
+ghost use Rattle.group.specs.Books.{SameTerms, after_opening};
+ghost use Rattle.group.specs.Drafts.{after_drawing, after_issue, is_current};
+ghost use Rattle.group.specs.Entries.{after_entry};
+ghost use Rattle.group.specs.Sound.{most_carried, most_entries};
+ghost use Rattle.group.specs.Years.{closed, previewed};
 
 use crate::draft::Draft;
 use crate::entry::make_entry;
@@ -36,8 +36,8 @@ pub struct Book<R, T> {
 }
 
 impl<R, T> Model for Book<R, T> {
-    ghost use Rattle.steps.specs.Books.{BookState};
-    ghost use Rattle.steps.specs.Sound.{Sound};
+    ghost use Rattle.group.specs.Books.{BookState};
+    ghost use Rattle.group.specs.Sound.{Sound};
 
     ghost Value = { BookState R T };
 

@@ -1,6 +1,6 @@
 //! Drafts of a month's bills.
 ghost use Rattle.std.specs.Prelude.{◌≡◌};
-ghost use Rattle.steps.specs.Drafts.{is_current, stamped};
+ghost use Rattle.group.specs.Drafts.{is_current, stamped};
 
 use calendar::days::Month;
 use group::group::{Group, Phase};
@@ -17,7 +17,7 @@ pub struct Draft {
 }
 
 impl Model for Draft {
-    ghost use Rattle.steps.specs.Drafts.{Stamp};
+    ghost use Rattle.group.specs.Drafts.{Stamp};
 
     ghost Value = { Stamp };
 

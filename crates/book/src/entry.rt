@@ -1,6 +1,6 @@
 //! What an entry makes of a group.
 ghost use Rattle.group.specs.Results.{Follows};
-ghost use Rattle.steps.specs.Entries.{after_entry};
+ghost use Rattle.group.specs.Entries.{after_entry};
 
 use group::group::{Group, Phase};
 use group::refusal::BookRefusal;

@@ -1,8 +1,8 @@
 //! Amounts that are posted to members' accounts.
 ghost use Rattle.std.specs.Prelude.{◌≡◌, ◌<◌, ◌≤◌, Some, length, nat_abs, slice_get};
 ghost use Rattle.billing.specs.Accounts.{drams_of};
-ghost use Rattle.steps.specs.Months.{posted};
-ghost use Rattle.steps.specs.Sound.{Postable};
+ghost use Rattle.group.specs.Months.{posted};
+ghost use Rattle.group.specs.Sound.{Postable};
 
 use billing::account::{Account, Posting, post};
 use group::member::Member;

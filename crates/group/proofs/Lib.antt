@@ -1,2 +1,9 @@
+pub mod EntriesSound
+pub mod Lists
+pub mod MonthsSound
+mod Nets
+pub mod OpeningSound
+mod Postings
 mod Quantities
 pub mod Stepping
+pub mod YearsSound

@@ -1,6 +1,12 @@
+pub mod Books
+pub mod Drafts
+pub mod Entries
 pub mod Groups
 pub mod Members
+pub mod Months
 pub mod Payments
 pub mod Refusals
 pub mod Registers
 pub mod Results
+pub mod Sound
+pub mod Years

@@ -6,7 +6,7 @@ use Rattle.cells.proofs.Overwriting.{put_more}
 use Rattle.cells.specs.Cells.{Put}
 use Rattle.group.specs.declared.group.Group.{Group}
 use Rattle.output.specs.Lines.{output_names}
-use Rattle.steps.specs.Months.{Prices, Share}
+use Rattle.group.specs.Months.{Prices, Share}
 use Rattle.settlement.proofs.Billing.{put_none}
 use Rattle.settlement.specs.Runs.{Begun, BodyDone, IsJournal, JournalDone, LinesRun, after_text, no_journal, no_room, runs, stopped}
 use Rattle.settlement.specs.Steps.{output_room, room_checked}

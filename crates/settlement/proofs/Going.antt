@@ -7,7 +7,7 @@ use Rattle.group.specs.declared.group.Group.{Group}
 use Rattle.journal.specs.Lines.{LineRead}
 use Rattle.lines.specs.declared.line.Line.{Line}
 use Rattle.lines.specs.declared.refusal.ReadRefusal.{ReadRefusal}
-use Rattle.steps.specs.Months.{Prices, Share}
+use Rattle.group.specs.Months.{Prices, Share}
 use Rattle.settlement.proofs.Billing.{put_none}
 use Rattle.settlement.specs.Runs.{BodyDone, GoesOn, LinesRun, Ran, after_text, ended, stopped}
 use Rattle.settlement.specs.Steps.{TextDone, after_reading}

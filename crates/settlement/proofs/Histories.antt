@@ -4,8 +4,8 @@ use Rattle.balance.proofs.Theorem.{throughout}
 use Rattle.balance.specs.Histories.{Event, Closing, Drawing, Entering, Issuing, Leads}
 use Rattle.group.specs.declared.group.Group.{Group}
 use Rattle.lines.specs.declared.line.Line.{Line}
-use Rattle.steps.specs.Books.{BookState, SameTerms}
-use Rattle.steps.specs.Months.{Keeps, Prices, Share}
+use Rattle.group.specs.Books.{BookState, SameTerms}
+use Rattle.group.specs.Months.{Keeps, Prices, Share}
 use Rattle.settlement.proofs.Order.{output_in_order}
 use Rattle.settlement.specs.Accepting.{Accepted, a_closing, an_entry, an_issue, none}
 use Rattle.settlement.specs.Laws.{BodyInOrder, StopsAt1}

@@ -11,7 +11,7 @@ use Rattle.journal.specs.Words.{kind_word}
 use Rattle.lines.specs.Names.{journal_names}
 use Rattle.lines.specs.declared.line.Line.{Line}
 use Rattle.output.specs.Lines.{output_names}
-use Rattle.steps.specs.Months.{Prices, Share}
+use Rattle.group.specs.Months.{Prices, Share}
 use Rattle.settlement.specs.Laws.{JournalsGoOn, RunsGoOn, RunsStop}
 use Rattle.settlement.specs.Runs.{GoesOn, LinesRun, Ran, after_text, no_journal, no_room, runs}
 use Rattle.settlement.specs.Steps.{after_reading}

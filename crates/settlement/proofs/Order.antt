@@ -12,10 +12,10 @@ use Rattle.lines.specs.declared.line.Line.{Line}
 use Rattle.lines.specs.declared.line.Line.TheVariants.{Enter, Issue, Year}
 use Rattle.lines.specs.declared.refusal.ReadRefusal.{ReadRefusal}
 use Rattle.output.specs.Lines.{year_line}
-use Rattle.steps.specs.Drafts.{Stamp, drawn, issued}
-use Rattle.steps.specs.Entries.{after_entry}
-use Rattle.steps.specs.Months.{Prices, Share}
-use Rattle.steps.specs.Years.{after_year, open_year, year_figures}
+use Rattle.group.specs.Drafts.{Stamp, drawn, issued}
+use Rattle.group.specs.Entries.{after_entry}
+use Rattle.group.specs.Months.{Prices, Share}
+use Rattle.group.specs.Years.{after_year, open_year, year_figures}
 use Rattle.settlement.proofs.Stepping.{through}
 use Rattle.settlement.specs.Accepting.{Accepted, a_closing, an_entry, an_issue, none}
 use Rattle.settlement.specs.Laws.{InOrder, OutputInOrder, StopsBehind}

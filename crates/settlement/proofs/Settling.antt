@@ -3,8 +3,8 @@ use Rattle.std.proofs.Common.{◌≡◌, ◌∙◌, ℕ, List, [], ◌∷◌, �
 use Rattle.balance.specs.Balances.{BalancedThroughout}
 use Rattle.balance.specs.Histories.{Event, Leads}
 use Rattle.group.specs.declared.group.Group.{Group}
-use Rattle.steps.specs.Books.{BookState, SameTerms}
-use Rattle.steps.specs.Months.{Prices, Share}
+use Rattle.group.specs.Books.{BookState, SameTerms}
+use Rattle.group.specs.Months.{Prices, Share}
 use Rattle.settlement.specs.Leading.{LeadsOnBalanced}
 use Rattle.settlement.specs.Runs.{JournalDone}
 use Rattle.settlement.specs.Setups.{JournalSettled, group_of}

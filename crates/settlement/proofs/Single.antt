@@ -7,7 +7,7 @@ use Rattle.lines.specs.Names.{journal_names}
 use Rattle.lines.specs.declared.line.Line.{Line}
 use Rattle.lines.specs.declared.refusal.ReadRefusal.{ReadRefusal}
 use Rattle.output.specs.Lines.{output_names}
-use Rattle.steps.specs.Months.{Prices, Share}
+use Rattle.group.specs.Months.{Prices, Share}
 use Rattle.settlement.specs.Laws.{OneOutcome}
 use Rattle.settlement.specs.Runs.{GoesOn, LinesRun, Ran, after_text, no_journal, no_room, runs}
 use Rattle.settlement.specs.Steps.{after_reading}

@@ -17,11 +17,11 @@ use Rattle.lines.specs.declared.line.Line.{Line}
 use Rattle.lines.specs.declared.line.Line.TheVariants.{Enter, Issue, Year}
 use Rattle.lines.specs.declared.refusal.ReadRefusal.{ReadRefusal}
 use Rattle.output.specs.Lines.{year_line}
-use Rattle.steps.proofs.Lists.{length-by_place}
-use Rattle.steps.specs.Drafts.{Stamp, after_drawing, after_issue, drawn, issued, overwritten}
-use Rattle.steps.specs.Entries.{after_entry}
-use Rattle.steps.specs.Months.{Prices, Share, bill_of, supplies_at}
-use Rattle.steps.specs.Years.{after_year, closed, open_year, year_figures}
+use Rattle.group.proofs.Lists.{length-by_place}
+use Rattle.group.specs.Drafts.{Stamp, after_drawing, after_issue, drawn, issued, overwritten}
+use Rattle.group.specs.Entries.{after_entry}
+use Rattle.group.specs.Months.{Prices, Share, bill_of, supplies_at}
+use Rattle.group.specs.Years.{after_year, closed, open_year, year_figures}
 use Rattle.settlement.proofs.Billing.{put_none}
 use Rattle.settlement.specs.Steps.{after_line, after_reading, done_by, output_room, refused_as, room_checked, room_for}
 use Rattle.settlement.specs.Texts.{bills_text}

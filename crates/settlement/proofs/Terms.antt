@@ -1,7 +1,7 @@
 -- What a book is settled by stays over one call and the next.
 use Rattle.std.proofs.Common.{ℕ, ◌∙◌, subst}
-use Rattle.steps.specs.Books.{BookState, SameTerms}
-use Rattle.steps.specs.Months.{Prices, Share}
+use Rattle.group.specs.Books.{BookState, SameTerms}
+use Rattle.group.specs.Months.{Prices, Share}
 
 pub same_on : {R T : Type 0} (old mid new : BookState R T) → SameTerms old mid → SameTerms mid new → SameTerms old new
 same_on old mid new first second = record { rule = second.rule ∙ first.rule; tariff = second.tariff ∙ first.tariff }

@@ -11,10 +11,10 @@ use Rattle.ledger.specs.declared.entry.Entry.{Entry}
 use Rattle.lines.specs.declared.line.Line.{Line}
 use Rattle.lines.specs.declared.line.Line.TheVariants.{Enter, Issue, Year}
 use Rattle.output.specs.Lines.{year_line}
-use Rattle.steps.specs.Drafts.{Stamp, drawn, issued}
-use Rattle.steps.specs.Entries.{after_entry}
-use Rattle.steps.specs.Months.{Prices, Share}
-use Rattle.steps.specs.Years.{closed}
+use Rattle.group.specs.Drafts.{Stamp, drawn, issued}
+use Rattle.group.specs.Entries.{after_entry}
+use Rattle.group.specs.Months.{Prices, Share}
+use Rattle.group.specs.Years.{closed}
 use Rattle.settlement.specs.Texts.{bills_text}
 
 -- these lines are what the first of the texts say

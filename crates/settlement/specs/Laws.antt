@@ -5,7 +5,7 @@ use Rattle.balance.specs.Histories.{Event}
 use Rattle.group.specs.declared.group.Group.{Group}
 use Rattle.lines.specs.declared.line.Line.{Line}
 use Rattle.output.specs.Lines.{output_names}
-use Rattle.steps.specs.Months.{Prices, Share}
+use Rattle.group.specs.Months.{Prices, Share}
 use Rattle.settlement.specs.Accepting.{Accepted, ReadFirst}
 use Rattle.settlement.specs.Runs.{IsJournal, LinesRun, Ran, RunsOver, after_text}
 use Rattle.settlement.specs.Texts.{text_lines}

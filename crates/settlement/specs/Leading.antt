@@ -3,8 +3,8 @@ use Rattle.std.specs.Prelude.{◌≡◌, ℕ, List, [], ◌++◌, ◌⊎◌}
 use Rattle.balance.specs.Balances.{BalancedThroughout, LeadsTo}
 use Rattle.balance.specs.Histories.{Event}
 use Rattle.lines.specs.declared.line.Line.{Line}
-use Rattle.steps.specs.Books.{BookState}
-use Rattle.steps.specs.Months.{Prices, Share}
+use Rattle.group.specs.Books.{BookState}
+use Rattle.group.specs.Months.{Prices, Share}
 use Rattle.settlement.specs.Accepting.{Accepted, ReadFirst}
 use Rattle.settlement.specs.Runs.{IsJournal}
 use Rattle.settlement.specs.Texts.{text_lines}

@@ -8,7 +8,7 @@ use Rattle.lines.specs.Names.{journal_names}
 use Rattle.lines.specs.declared.line.Line.{Line}
 use Rattle.lines.specs.declared.refusal.ReadRefusal.{ReadRefusal}
 use Rattle.output.specs.Lines.{output_names}
-use Rattle.steps.specs.Months.{Prices, Share}
+use Rattle.group.specs.Months.{Prices, Share}
 use Rattle.settlement.specs.Steps.{after_reading, output_room}
 use Rattle.settlement.specs.Texts.{text_lines}
 use Rattle.settlement.specs.declared.fault.RunFault.{RunFault}

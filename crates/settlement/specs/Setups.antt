@@ -5,8 +5,8 @@ use Rattle.balance.specs.Histories.{Event, Opening}
 use Rattle.group.specs.Groups.{opened}
 use Rattle.group.specs.declared.group.Group.{Group}
 use Rattle.group.specs.declared.refusal.BookRefusal.{BookRefusal}
-use Rattle.steps.specs.Books.{BookState}
-use Rattle.steps.specs.Months.{Prices, Share}
+use Rattle.group.specs.Books.{BookState}
+use Rattle.group.specs.Months.{Prices, Share}
 use Rattle.settlement.specs.Runs.{JournalDone}
 use Rattle.settlement.specs.declared.run.Outcome.{Outcome}
 use Rattle.settlement.specs.declared.setup.Setup.{Setup}

@@ -9,10 +9,10 @@ use Rattle.lines.specs.declared.line.Line.{Line}
 use Rattle.lines.specs.declared.line.Line.TheVariants.{Enter, Issue, Year}
 use Rattle.lines.specs.declared.refusal.ReadRefusal.{ReadRefusal}
 use Rattle.output.specs.Lines.{year_line}
-use Rattle.steps.specs.Drafts.{drawn, issued}
-use Rattle.steps.specs.Entries.{after_entry}
-use Rattle.steps.specs.Months.{Prices, Share}
-use Rattle.steps.specs.Years.{after_year, open_year, year_figures}
+use Rattle.group.specs.Drafts.{drawn, issued}
+use Rattle.group.specs.Entries.{after_entry}
+use Rattle.group.specs.Months.{Prices, Share}
+use Rattle.group.specs.Years.{after_year, open_year, year_figures}
 use Rattle.settlement.specs.Texts.{bills_text}
 use Rattle.settlement.specs.declared.fault.RunRefusal.{RunRefusal}
 use Rattle.settlement.specs.declared.fault.RunRefusal.TheVariants as refused

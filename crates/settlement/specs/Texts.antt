@@ -4,7 +4,7 @@ use Rattle.std.specs.Prelude.{◌≡◌, ℕ, ◌==◌, ◌<◌, if◌then◌els
 use Rattle.std.specs.List.{concat}
 use Rattle.ledger.specs.declared.bill.Bill.{Bill}
 use Rattle.output.specs.Lines.{bill_line}
-use Rattle.steps.specs.Months.{by_place}
+use Rattle.group.specs.Months.{by_place}
 
 -- a byte before the first of some lines
 abbrev pub onto_first : (byte : ℕ) → List (List ℕ) → List (List ℕ)

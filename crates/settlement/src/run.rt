@@ -3,7 +3,7 @@ ghost use Rattle.std.specs.Prelude.{◌≤◌, length};
 ghost use Rattle.settlement.specs.Leading.{LeadsOnBalanced};
 ghost use Rattle.settlement.specs.Runs.{Begun, BodyDone, JournalDone};
 ghost use Rattle.settlement.specs.Texts.{NextLine};
-ghost use Rattle.steps.specs.Books.{SameTerms};
+ghost use Rattle.group.specs.Books.{SameTerms};
 
 use crate::fault::{RunFault, RunRefusal};
 use crate::step::{check_room, run_line};

@@ -2,7 +2,7 @@
 ghost use Rattle.std.specs.Prelude.{◌≡◌, ◌≤◌, IfOk, length};
 ghost use Rattle.lines.specs.declared.line.Line.TheVariants as lines;
 ghost use Rattle.settlement.specs.Steps.{LineDone, TextDone, output_room, room_checked};
-ghost use Rattle.steps.specs.Books.{SameTerms};
+ghost use Rattle.group.specs.Books.{SameTerms};
 
 use crate::bills::{write_bills, write_whole};
 use crate::fault::RunRefusal;

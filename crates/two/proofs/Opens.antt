@@ -11,7 +11,7 @@ use Rattle.settlement.specs.declared.run.Outcome.{Outcome}
 use Rattle.settlement.specs.declared.setup.Setup.{Setup}
 use Rattle.sharing.specs.Rules.{proportion}
 use Rattle.sharing.specs.declared.proportion.Proportion.{Proportion}
-use Rattle.steps.specs.Months.{Prices}
+use Rattle.group.specs.Months.{Prices}
 use Rattle.tariff.specs.Charges.{charged}
 use Rattle.tariff.specs.declared.fixed.FixedTariff.{FixedTariff}
 use Rattle.two.specs.Two.{IsTwo, SettlesTwo, prices, two}

@@ -6,7 +6,7 @@ use Rattle.group.specs.Members.{on_register}
 use Rattle.group.specs.Registers.{corrected}
 use Rattle.group.specs.Results.{Follows}
 use Rattle.ledger.specs.declared.entry.Entry.TheVariants.{Reading, Change, Correction, Payment}
-use Rattle.steps.proofs.EntriesSound.{open_follows}
+use Rattle.group.proofs.EntriesSound.{open_follows}
 use Rattle.book.proofs.entry.make_entry.Goals as goal
 
 pub returns-in-Open-Reading : goal.returns-in-Open-Reading

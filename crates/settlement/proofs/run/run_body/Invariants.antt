@@ -1,5 +1,5 @@
 use Rattle.std.proofs.Common.{length}
-use Rattle.steps.specs.Books.{SameTerms}
+use Rattle.group.specs.Books.{SameTerms}
 use Rattle.settlement.proofs.Going.{Going}
 use Rattle.settlement.proofs.run.run_body.Given as goal
 

@@ -1,8 +1,8 @@
 use Rattle.std.proofs.Common.{Ok, subst, arith, rules}
 use Rattle.std.proofs.lemmas.Grind.{common_steps}
 use Rattle.group.specs.declared.group.Group.{Group}
-use Rattle.steps.proofs.YearsSound.{year_sound}
-use Rattle.steps.specs.Sound.{Sound}
+use Rattle.group.proofs.YearsSound.{year_sound}
+use Rattle.group.specs.Sound.{Sound}
 use Rattle.balance.proofs.Theorem.{moved_goes_on, quiet_goes_on}
 use Rattle.balance.specs.Histories.{Closing}
 use Rattle.book.proofs.Paid.{closed_is}

@@ -1,6 +1,6 @@
 use Rattle.balance.proofs.Theorem.{moved_goes_on}
 use Rattle.balance.specs.Histories.{Entering}
-use Rattle.steps.proofs.EntriesSound.{entry_follows}
+use Rattle.group.proofs.EntriesSound.{entry_follows}
 use Rattle.book.proofs.book.Book.enter.Goals as goal
 
 -- no entry leaves the ranges of the figures

@@ -4,8 +4,8 @@ use Rattle.balance.proofs.Theorem.{moved_goes_on, quiet_goes_on}
 use Rattle.balance.specs.Balances.{lines_in}
 use Rattle.balance.specs.Histories.{Issuing}
 use Rattle.group.specs.declared.group.Group.{Group}
-use Rattle.steps.proofs.MonthsSound.{month_sound}
-use Rattle.steps.specs.Sound.{Sound}
+use Rattle.group.proofs.MonthsSound.{month_sound}
+use Rattle.group.specs.Sound.{Sound}
 use Rattle.book.proofs.Posted.{issued_told}
 use Rattle.book.proofs.book.Book.issue.Goals as goal
 

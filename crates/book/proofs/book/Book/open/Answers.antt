@@ -2,7 +2,7 @@ use Rattle.std.proofs.Common.{Ok, arith, rules, sym}
 use Rattle.std.proofs.lemmas.Grind.{common_steps}
 use Rattle.balance.proofs.Theorem.{moved_goes_on, quiet_goes_on}
 use Rattle.balance.specs.Histories.{Opening}
-use Rattle.steps.proofs.OpeningSound.{opening_sound}
+use Rattle.group.proofs.OpeningSound.{opening_sound}
 use Rattle.book.proofs.book.Book.open.Goals as goal
 
 pub invariant_of-self : goal.invariant_of-self

@@ -27,9 +27,9 @@ use Rattle.group.specs.Registers.{corrected, read}
 use Rattle.group.specs.declared.member.Member.{Member}
 use Rattle.group.specs.declared.refusal.BookRefusal.{BookRefusal}
 use Rattle.group.specs.declared.register.Register.{Register}
-use Rattle.steps.proofs.Lists.{found_all}
-use Rattle.steps.specs.Entries.{after_entry, open_month, place_of, recorded}
-use Rattle.steps.specs.Sound.{Sound, SoundFlows, SoundMember, SoundPhase, SoundRegister, most_entries, most_owed}
+use Rattle.group.proofs.Lists.{found_all}
+use Rattle.group.specs.Entries.{after_entry, open_month, place_of, recorded}
+use Rattle.group.specs.Sound.{Sound, SoundFlows, SoundMember, SoundPhase, SoundRegister, most_entries, most_owed}
 
 -- what is read of a register is of seven digits, and its tally in range
 read_sound : (month day value next : ℕ) (register after : Register) → read month day value next register ≡ Ok after → SoundRegister after

@@ -10,8 +10,8 @@ use Rattle.ledger.specs.declared.zone.Zone.{Zone}
 use Rattle.ledger.specs.declared.zone.Zone.TheVariants.{Day, Night}
 use Rattle.group.specs.declared.member.Member.{Member}
 use Rattle.group.specs.declared.register.Register.{Register}
-use Rattle.steps.specs.Months.{net_in}
-use Rattle.steps.specs.Sound.{SoundFlows, SoundMember}
+use Rattle.group.specs.Months.{net_in}
+use Rattle.group.specs.Sound.{SoundFlows, SoundMember}
 
 need_of_tallies : (a b : ℤ) → nat_abs a ≤ 1000000 → nat_abs b ≤ 1000000 → need (a -ℤ b) ≤ 2000000
 need_of_tallies a b p q = grind (arith, ints)

@@ -13,7 +13,7 @@ use Rattle.ledger.specs.Zones.{in_zone}
 use Rattle.ledger.specs.declared.zone.ByFlow.{ByFlow}
 use Rattle.ledger.specs.declared.zone.Zone.{Zone}
 use Rattle.ledger.specs.declared.zone.Zone.TheVariants.{Day, Night}
-use Rattle.steps.specs.Sound.{Sound, SoundFlows, SoundMember, most_owed}
+use Rattle.group.specs.Sound.{Sound, SoundFlows, SoundMember, most_owed}
 
 flows_open : (flows : ByFlow ℕ) → one_over flows ≡ false → SoundFlows (opened_flows flows)
 flows_open flows is =

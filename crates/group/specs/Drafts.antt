@@ -7,8 +7,8 @@ use Rattle.group.specs.declared.group.Phase.{Phase}
 use Rattle.group.specs.declared.group.Phase.TheVariants.{Blank, Open, YearEnd, Over}
 use Rattle.group.specs.declared.refusal.BookRefusal.{BookRefusal}
 use Rattle.group.specs.declared.refusal.BookRefusal.TheVariants as refused
-use Rattle.steps.specs.Entries.{open_month}
-use Rattle.steps.specs.Months.{Prices, Share, billed_members, carried_in, each_zone, lines_of}
+use Rattle.group.specs.Entries.{open_month}
+use Rattle.group.specs.Months.{Prices, Share, billed_members, carried_in, each_zone, lines_of}
 
 -- the three numbers of a draft: those of the group and the month that it was drawn of, and how many entries the month had
 pub record Stamp : Type 0 where
