@@ -20,10 +20,10 @@ use Rattle.journal.specs.Rows.{Fields}
 use Rattle.journal.specs.Words.{flow_word, kind_word, zone_word}
 use Rattle.journal.specs.declared.kind.Kind.{Kind}
 use Rattle.journal.specs.declared.kind.Kind.TheVariants as kinds
-use Rattle.lines.specs.declared.line.Line.{Line}
-use Rattle.lines.specs.declared.line.Line.TheVariants.{Enter, Issue, Year}
-use Rattle.lines.specs.declared.refusal.ReadRefusal.{ReadRefusal}
-use Rattle.lines.specs.declared.refusal.ReadRefusal.TheVariants as refusals
+use Rattle.journal.specs.declared.line.Line.{Line}
+use Rattle.journal.specs.declared.line.Line.TheVariants.{Enter, Issue, Year}
+use Rattle.journal.specs.declared.refusal.ReadRefusal.{ReadRefusal}
+use Rattle.journal.specs.declared.refusal.ReadRefusal.TheVariants as refusals
 
 -- ---- no text of a field has a comma
 

@@ -4,8 +4,8 @@ use Rattle.fields.proofs.Widths.{digits_9, line_within, signed_9}
 use Rattle.fields.specs.Texts.{day_text}
 use Rattle.journal.specs.Lines.{Writable, line_text}
 use Rattle.journal.specs.Words.{flow_word, zone_word}
-use Rattle.lines.specs.declared.line.Line.{Line}
-use Rattle.lines.specs.declared.line.Line.TheVariants.{Enter, Issue, Year}
+use Rattle.journal.specs.declared.line.Line.{Line}
+use Rattle.journal.specs.declared.line.Line.TheVariants.{Enter, Issue, Year}
 use Rattle.ledger.specs.declared.entry.Entry.TheVariants.{Change, Correction, Payment, Reading}
 use Rattle.ledger.specs.declared.zone.Flow.{Flow}
 use Rattle.ledger.specs.declared.zone.Flow.TheVariants.{Consumed, Delivered}

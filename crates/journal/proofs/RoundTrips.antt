@@ -4,9 +4,9 @@ use Rattle.cells.specs.Cells.{overwritten}
 use Rattle.journal.proofs.Forms.{one_answer}
 use Rattle.journal.specs.Lines.{LineRead, line_text}
 use Rattle.journal.specs.Writing.{LineWritten, ReadThenWritten, WrittenThenRead}
-use Rattle.lines.specs.declared.line.Line.{Line}
-use Rattle.lines.specs.declared.refusal.WriteRefusal.{WriteRefusal}
-use Rattle.lines.specs.declared.refusal.WriteRefusal.TheVariants.{Form, Room}
+use Rattle.journal.specs.declared.line.Line.{Line}
+use Rattle.journal.specs.declared.refusal.WriteRefusal.{WriteRefusal}
+use Rattle.journal.specs.declared.refusal.WriteRefusal.TheVariants.{Form, Room}
 use Rattle.std.proofs.lemmas.List.{take_at}
 
 -- the front of the slice is the text that was written there

@@ -14,8 +14,8 @@ use Rattle.journal.specs.Lines.{Writable, kind_of, others}
 use Rattle.journal.specs.Words.{flow_word, kind_word, zone_word}
 use Rattle.journal.specs.declared.kind.Kind.{Kind}
 use Rattle.journal.specs.declared.kind.Kind.TheVariants as kinds
-use Rattle.lines.specs.declared.line.Line.{Line}
-use Rattle.lines.specs.declared.line.Line.TheVariants.{Enter, Issue, Year}
+use Rattle.journal.specs.declared.line.Line.{Line}
+use Rattle.journal.specs.declared.line.Line.TheVariants.{Enter, Issue, Year}
 
 -- ---- words
 

@@ -9,8 +9,8 @@ use Rattle.journal.specs.Rows.{OnLine, WrongOf, others_of, texts_of}
 use Rattle.journal.specs.Words.{kind_word}
 use Rattle.journal.specs.declared.kind.Kind.{Kind}
 use Rattle.journal.specs.declared.kind.Kind.TheVariants as kinds
-use Rattle.lines.specs.declared.line.Line.{Line}
-use Rattle.lines.specs.declared.line.Line.TheVariants.{Issue}
+use Rattle.journal.specs.declared.line.Line.{Line}
+use Rattle.journal.specs.declared.line.Line.TheVariants.{Issue}
 use Rattle.journal.specs.declared.row.Row.{Row}
 
 -- the bytes are the row, or none where they are not seven texts parted by commas

@@ -2,10 +2,10 @@
 use Rattle.std.specs.Prelude.{◌≡◌, ℕ, ◌<◌, ◌≤◌, List, length, take, Ok, Err, Result}
 use Rattle.cells.specs.Cells.{overwritten}
 use Rattle.journal.specs.Lines.{LineRead, Writable, line_text}
-use Rattle.lines.specs.declared.line.Line.{Line}
-use Rattle.lines.specs.declared.refusal.ReadRefusal.{ReadRefusal}
-use Rattle.lines.specs.declared.refusal.WriteRefusal.{WriteRefusal}
-use Rattle.lines.specs.declared.refusal.WriteRefusal.TheVariants.{Form, Room}
+use Rattle.journal.specs.declared.line.Line.{Line}
+use Rattle.journal.specs.declared.refusal.ReadRefusal.{ReadRefusal}
+use Rattle.journal.specs.declared.refusal.WriteRefusal.{WriteRefusal}
+use Rattle.journal.specs.declared.refusal.WriteRefusal.TheVariants.{Form, Room}
 
 -- what the writer of a line of a journal answers and leaves: first it refuses a line with a number or a day out
 -- of its range, then a slice under 64 bytes; else the line stands at the slice's start

@@ -6,13 +6,13 @@ ghost use Rattle.journal.specs.Steps.{ReadAs, ReadBare, RowRead};
 ghost use Rattle.journal.specs.declared.kind.Kind.TheVariants as kinds;
 
 use crate::kind::Kind;
+use crate::line::Line;
+use crate::refusal::ReadRefusal;
 use crate::row::Row;
 use crate::words::Word;
 use fields::column::{Column, Dated, Missing, Number, Signed};
 use fields::field::WrongField;
 use ledger::entry::{Entry, MemberRegister};
-use lines::line::Line;
-use lines::refusal::ReadRefusal;
 
 /// Reads a line of a journal, with its line feed as its last byte, or tells why it is none; its fields are told with the number `line`, which does not change the answer.
 pub fn read_line(text: &[u8], line: usize) -> Result<Line, ReadRefusal>

@@ -7,17 +7,17 @@ ghost use Rattle.ledger.specs.declared.entry.Entry.TheVariants as entries;
 ghost use Rattle.journal.specs.Lines.{Writable, kind_of, line_text, others};
 ghost use Rattle.journal.specs.Words.{flow_word, kind_word, zone_word};
 ghost use Rattle.journal.specs.Writing.{LineWritten, ReadThenWritten, WrittenThenRead};
-ghost use Rattle.lines.specs.declared.line.Line.TheVariants as lines;
+ghost use Rattle.journal.specs.declared.line.Line.TheVariants as lines;
 
 use crate::kind::Kind;
+use crate::line::Line;
+use crate::refusal::WriteRefusal;
 use crate::words::Worded;
 use calendar::date::date_of;
 use calendar::days::{Day, LAST_DAY};
 use cells::rows::{Cell, write_row};
 use fields::column::MOST_NUMBER;
 use ledger::entry::{Entry, MemberRegister};
-use lines::line::Line;
-use lines::refusal::WriteRefusal;
 
 /// The room that the writer of a line asks for.
 pub const LINE_ROOM: usize = 64;

@@ -1,8 +1,8 @@
 //! The lines of the output and of a fault, and the lines of names.
 use crate::slices::{BLANK, check_written};
+use journal::names::after_names;
 use ledger::bill::{Bill, YearEnd};
 use ledger::zone::ByZone;
-use lines::names::after_names;
 use output::fault::{Fault, Layer, write_fault};
 use output::lines::{write_figures, write_names};
 use output::refusal::OutputRefusal;

@@ -2,8 +2,8 @@
 use crate::line_cases::LINES;
 use fields::token::Token;
 use journal::read::read_line;
+use journal::refusal::ReadRefusal;
 use journal::row::Row;
-use lines::refusal::ReadRefusal;
 use std::test::Fail;
 
 #[test]

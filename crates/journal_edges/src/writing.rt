@@ -1,11 +1,11 @@
 //! What is written of a line, and what is refused.
 use crate::line_cases::LINES;
 use crate::slices::{BLANK, check_written};
+use journal::line::Line;
+use journal::refusal::WriteRefusal;
 use journal::write::write_line;
 use ledger::entry::{Entry, MemberRegister};
 use ledger::zone::{Flow, Zone};
-use lines::line::Line;
-use lines::refusal::WriteRefusal;
 use std::test::Fail;
 
 #[test]

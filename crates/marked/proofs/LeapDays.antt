@@ -12,8 +12,8 @@ use Rattle.fields.specs.Rows.{line_of}
 use Rattle.fields.specs.Texts.{date_text}
 use Rattle.journal.specs.Lines.{LineRead}
 use Rattle.journal.specs.declared.kind.Kind.TheVariants as kinds
-use Rattle.lines.specs.declared.line.Line.TheVariants.{Enter}
-use Rattle.lines.specs.declared.refusal.ReadRefusal.TheVariants.{Form}
+use Rattle.journal.specs.declared.line.Line.TheVariants.{Enter}
+use Rattle.journal.specs.declared.refusal.ReadRefusal.TheVariants.{Form}
 use Rattle.ledger.specs.declared.entry.Entry.TheVariants.{Reading}
 use Rattle.ledger.specs.declared.zone.Flow.TheVariants.{Delivered}
 use Rattle.ledger.specs.declared.zone.Zone.TheVariants.{Day}

@@ -10,9 +10,9 @@ use Rattle.group.specs.Registers.{opened_register, quantity, read, tally_with}
 use Rattle.group.specs.declared.refusal.BookRefusal.TheVariants.{Below, Tally}
 use Rattle.group.specs.declared.register.Register.{Register}
 use Rattle.journal.specs.Lines.{LineRead}
-use Rattle.lines.specs.Refusals.{read_number}
-use Rattle.lines.specs.declared.line.Line.TheVariants.{Enter}
-use Rattle.lines.specs.declared.refusal.ReadRefusal.TheVariants.{Form}
+use Rattle.journal.specs.Refusals.{read_number}
+use Rattle.journal.specs.declared.line.Line.TheVariants.{Enter}
+use Rattle.journal.specs.declared.refusal.ReadRefusal.TheVariants.{Form}
 use Rattle.ledger.specs.declared.entry.Entry.TheVariants.{Reading}
 use Rattle.ledger.specs.declared.entry.MemberRegister.{MemberRegister}
 use Rattle.ledger.specs.declared.zone.Flow.TheVariants.{Delivered}

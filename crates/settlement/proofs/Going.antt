@@ -5,8 +5,8 @@ use Rattle.cells.proofs.Overwriting.{put_as, put_more}
 use Rattle.cells.specs.Cells.{Put}
 use Rattle.group.specs.declared.group.Group.{Group}
 use Rattle.journal.specs.Lines.{LineRead}
-use Rattle.lines.specs.declared.line.Line.{Line}
-use Rattle.lines.specs.declared.refusal.ReadRefusal.{ReadRefusal}
+use Rattle.journal.specs.declared.line.Line.{Line}
+use Rattle.journal.specs.declared.refusal.ReadRefusal.{ReadRefusal}
 use Rattle.group.specs.Months.{Prices, Share}
 use Rattle.settlement.proofs.Billing.{put_none}
 use Rattle.settlement.specs.Runs.{BodyDone, GoesOn, LinesRun, Ran, after_text, ended, stopped}

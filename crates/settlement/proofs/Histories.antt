@@ -3,7 +3,7 @@ use Rattle.std.proofs.Common.{◌≡◌, ◌∙◌, ℕ, List, [], ◌∷◌, �
 use Rattle.balance.proofs.Theorem.{throughout}
 use Rattle.balance.specs.Histories.{Event, Closing, Drawing, Entering, Issuing, Leads}
 use Rattle.group.specs.declared.group.Group.{Group}
-use Rattle.lines.specs.declared.line.Line.{Line}
+use Rattle.journal.specs.declared.line.Line.{Line}
 use Rattle.group.specs.Books.{BookState, SameTerms}
 use Rattle.group.specs.Months.{Keeps, Prices, Share}
 use Rattle.settlement.proofs.Order.{output_in_order}

@@ -8,8 +8,8 @@ use Rattle.group.specs.declared.group.Group.{Group}
 use Rattle.fields.specs.Rows.{row}
 use Rattle.journal.specs.Lines.{LineRead, kind_of, others}
 use Rattle.journal.specs.Words.{kind_word}
-use Rattle.lines.specs.Names.{journal_names}
-use Rattle.lines.specs.declared.line.Line.{Line}
+use Rattle.journal.specs.Names.{journal_names}
+use Rattle.journal.specs.declared.line.Line.{Line}
 use Rattle.output.specs.Lines.{output_names}
 use Rattle.group.specs.Months.{Prices, Share}
 use Rattle.settlement.specs.Laws.{JournalsGoOn, RunsGoOn, RunsStop}

@@ -8,9 +8,9 @@ use Rattle.group.specs.Results.{made}
 use Rattle.group.specs.declared.group.Group.{Group}
 use Rattle.journal.specs.Lines.{LineRead}
 use Rattle.ledger.specs.declared.bill.Bill.{Bill}
-use Rattle.lines.specs.declared.line.Line.{Line}
-use Rattle.lines.specs.declared.line.Line.TheVariants.{Enter, Issue, Year}
-use Rattle.lines.specs.declared.refusal.ReadRefusal.{ReadRefusal}
+use Rattle.journal.specs.declared.line.Line.{Line}
+use Rattle.journal.specs.declared.line.Line.TheVariants.{Enter, Issue, Year}
+use Rattle.journal.specs.declared.refusal.ReadRefusal.{ReadRefusal}
 use Rattle.output.specs.Lines.{year_line}
 use Rattle.group.specs.Drafts.{Stamp, drawn, issued}
 use Rattle.group.specs.Entries.{after_entry}

@@ -3,9 +3,9 @@ use Rattle.std.proofs.Common.{◌≡◌, ◌∙◌, ℕ, ◌+◌, ◌-◌, List,
 use Rattle.std.proofs.lemmas.List.{append_cancel_left}
 use Rattle.group.specs.declared.group.Group.{Group}
 use Rattle.journal.proofs.Forms.{one_answer}
-use Rattle.lines.specs.Names.{journal_names}
-use Rattle.lines.specs.declared.line.Line.{Line}
-use Rattle.lines.specs.declared.refusal.ReadRefusal.{ReadRefusal}
+use Rattle.journal.specs.Names.{journal_names}
+use Rattle.journal.specs.declared.line.Line.{Line}
+use Rattle.journal.specs.declared.refusal.ReadRefusal.{ReadRefusal}
 use Rattle.output.specs.Lines.{output_names}
 use Rattle.group.specs.Months.{Prices, Share}
 use Rattle.settlement.specs.Laws.{OneOutcome}

@@ -8,8 +8,8 @@ use Rattle.journal.specs.Lines.{LineRead}
 use Rattle.ledger.specs.declared.bill.Bill.{Bill}
 use Rattle.ledger.specs.declared.bill.YearEnd.{YearEnd}
 use Rattle.ledger.specs.declared.entry.Entry.{Entry}
-use Rattle.lines.specs.declared.line.Line.{Line}
-use Rattle.lines.specs.declared.line.Line.TheVariants.{Enter, Issue, Year}
+use Rattle.journal.specs.declared.line.Line.{Line}
+use Rattle.journal.specs.declared.line.Line.TheVariants.{Enter, Issue, Year}
 use Rattle.output.specs.Lines.{year_line}
 use Rattle.group.specs.Drafts.{Stamp, drawn, issued}
 use Rattle.group.specs.Entries.{after_entry}

@@ -1,8 +1,8 @@
 -- Where and why a run stops: the number, the field and the layer of each refusal.
 use Rattle.std.specs.Prelude.{ℕ, None, Option, Some}
 use Rattle.group.specs.Refusals.{number_of as book_number}
-use Rattle.lines.specs.Refusals.{read_number}
-use Rattle.lines.specs.declared.refusal.ReadRefusal.TheVariants.{Fields, Form}
+use Rattle.journal.specs.Refusals.{read_number}
+use Rattle.journal.specs.declared.refusal.ReadRefusal.TheVariants.{Fields, Form}
 use Rattle.output.specs.declared.fault.Fault.{Fault}
 use Rattle.output.specs.declared.fault.Layer.{Layer}
 use Rattle.output.specs.declared.fault.Layer.TheVariants as layers

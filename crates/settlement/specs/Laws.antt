@@ -3,7 +3,7 @@ use Rattle.std.specs.Prelude.{◌≡◌, ℕ, ◌<◌, ◌+◌, ◌-◌, ◌≤�
 use Rattle.std.specs.List.{concat}
 use Rattle.balance.specs.Histories.{Event}
 use Rattle.group.specs.declared.group.Group.{Group}
-use Rattle.lines.specs.declared.line.Line.{Line}
+use Rattle.journal.specs.declared.line.Line.{Line}
 use Rattle.output.specs.Lines.{output_names}
 use Rattle.group.specs.Months.{Prices, Share}
 use Rattle.settlement.specs.Accepting.{Accepted, ReadFirst}

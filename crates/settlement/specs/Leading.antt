@@ -2,7 +2,7 @@
 use Rattle.std.specs.Prelude.{◌≡◌, ℕ, List, [], ◌++◌, ◌⊎◌}
 use Rattle.balance.specs.Balances.{BalancedThroughout, LeadsTo}
 use Rattle.balance.specs.Histories.{Event}
-use Rattle.lines.specs.declared.line.Line.{Line}
+use Rattle.journal.specs.declared.line.Line.{Line}
 use Rattle.group.specs.Books.{BookState}
 use Rattle.group.specs.Months.{Prices, Share}
 use Rattle.settlement.specs.Accepting.{Accepted, ReadFirst}

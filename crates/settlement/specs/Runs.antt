@@ -4,9 +4,9 @@ use Rattle.std.specs.Prelude.{◌≡◌, ℕ, ◌+◌, ◌-◌, ◌<◌, ◌≤�
 use Rattle.cells.specs.Cells.{Put}
 use Rattle.group.specs.declared.group.Group.{Group}
 use Rattle.journal.specs.Lines.{LineRead}
-use Rattle.lines.specs.Names.{journal_names}
-use Rattle.lines.specs.declared.line.Line.{Line}
-use Rattle.lines.specs.declared.refusal.ReadRefusal.{ReadRefusal}
+use Rattle.journal.specs.Names.{journal_names}
+use Rattle.journal.specs.declared.line.Line.{Line}
+use Rattle.journal.specs.declared.refusal.ReadRefusal.{ReadRefusal}
 use Rattle.output.specs.Lines.{output_names}
 use Rattle.group.specs.Months.{Prices, Share}
 use Rattle.settlement.specs.Steps.{after_reading, output_room}

@@ -5,9 +5,9 @@ use Rattle.group.specs.Results.{and_then, made}
 use Rattle.group.specs.declared.group.Group.{Group}
 use Rattle.group.specs.declared.refusal.BookRefusal.{BookRefusal}
 use Rattle.journal.specs.Lines.{LineRead}
-use Rattle.lines.specs.declared.line.Line.{Line}
-use Rattle.lines.specs.declared.line.Line.TheVariants.{Enter, Issue, Year}
-use Rattle.lines.specs.declared.refusal.ReadRefusal.{ReadRefusal}
+use Rattle.journal.specs.declared.line.Line.{Line}
+use Rattle.journal.specs.declared.line.Line.TheVariants.{Enter, Issue, Year}
+use Rattle.journal.specs.declared.refusal.ReadRefusal.{ReadRefusal}
 use Rattle.output.specs.Lines.{year_line}
 use Rattle.group.specs.Drafts.{drawn, issued}
 use Rattle.group.specs.Entries.{after_entry}

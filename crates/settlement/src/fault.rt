@@ -4,7 +4,7 @@ ghost use Rattle.settlement.specs.Faults.{fault_of, field_of, layer_of, number_o
 ghost use Rattle.settlement.specs.declared.fault.RunRefusal.TheVariants as refused;
 
 use group::refusal::BookRefusal;
-use lines::refusal::ReadRefusal;
+use journal::refusal::ReadRefusal;
 use output::fault::{Fault, Layer};
 
 /// Why a run stops.

@@ -9,7 +9,7 @@ use crate::fault::{RunFault, RunRefusal};
 use crate::step::{check_room, run_line};
 use book::book::Book;
 use fields::marks::next_line_feed;
-use lines::names::after_names;
+use journal::names::after_names;
 use output::lines::write_names;
 use sharing::rule::SharingRule;
 use tariff::tariff::Tariff;

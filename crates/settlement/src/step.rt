@@ -1,6 +1,6 @@
 //! What a line of a journal does to a book and to the output.
 ghost use Rattle.std.specs.Prelude.{◌≡◌, ◌≤◌, IfOk, length};
-ghost use Rattle.lines.specs.declared.line.Line.TheVariants as lines;
+ghost use Rattle.journal.specs.declared.line.Line.TheVariants as lines;
 ghost use Rattle.settlement.specs.Steps.{LineDone, TextDone, output_room, room_checked};
 ghost use Rattle.group.specs.Books.{SameTerms};
 
@@ -8,10 +8,10 @@ use crate::bills::{write_bills, write_whole};
 use crate::fault::RunRefusal;
 use book::book::Book;
 use group::group::Phase;
+use journal::line::Line;
 use journal::read::read_line;
 use ledger::bill::Bill;
 use ledger::entry::Entry;
-use lines::line::Line;
 use sharing::rule::{PLACES, SharingRule};
 use tariff::tariff::Tariff;
 

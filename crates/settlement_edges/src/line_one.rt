@@ -3,7 +3,7 @@ use crate::fixture::{
     ISSUE, JANUARY, MARK, NAMES, OUTPUT_NAMES, PAYMENT, check_fault, check_output, debt, journal,
     of_text, open, runs, stops_at_line_1,
 };
-use lines::refusal::ReadRefusal;
+use journal::refusal::ReadRefusal;
 use settlement::fault::RunRefusal;
 use settlement::run::run;
 use std::process::Abort;

@@ -6,7 +6,7 @@ use crate::fixture::{
 use book::book::Book;
 use calendar::days::Month;
 use group::refusal::BookRefusal;
-use lines::refusal::ReadRefusal;
+use journal::refusal::ReadRefusal;
 use settlement::fault::RunRefusal;
 use settlement::run::run;
 use sharing::proportion::Proportion;

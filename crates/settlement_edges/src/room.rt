@@ -5,7 +5,7 @@ use crate::fixture::{
 };
 use calendar::days::Month;
 use group::refusal::BookRefusal;
-use lines::refusal::ReadRefusal;
+use journal::refusal::ReadRefusal;
 use settlement::fault::RunRefusal;
 use settlement::run::run;
 use std::process::Abort;

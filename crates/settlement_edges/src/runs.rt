@@ -3,7 +3,7 @@ use crate::fixture::{
     Answers, DECEMBER, ISSUE, JANUARY, MARK, OUTPUT_NAMES, PlainBook, YEAR, check_fault,
     check_output, debt, journal, of_text, open, runs, seen,
 };
-use lines::refusal::ReadRefusal;
+use journal::refusal::ReadRefusal;
 use settlement::fault::RunRefusal;
 use settlement::run::run;
 use std::process::Abort;

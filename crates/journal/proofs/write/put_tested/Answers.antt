@@ -5,7 +5,7 @@ use Rattle.fields.specs.Rows.{line_of}
 use Rattle.journal.proofs.Lengths.{short_line}
 use Rattle.journal.proofs.write.put_tested.Goals as goal
 use Rattle.journal.specs.Lines.{Writable, line_text}
-use Rattle.lines.specs.declared.refusal.WriteRefusal.TheVariants.{Room}
+use Rattle.journal.specs.declared.refusal.WriteRefusal.TheVariants.{Room}
 
 pub returns : goal.returns
 returns c =

@@ -1,5 +1,5 @@
 use Rattle.std.proofs.lemmas.Slice.Eq.{strip_prefix_is}
-use Rattle.lines.proofs.names.after_names.Goals as goal
+use Rattle.journal.proofs.names.after_names.Goals as goal
 use Rattle.std.proofs.lemmas.Bool.Decides.{Decides-eqb}
 
 pub returns : goal.returns

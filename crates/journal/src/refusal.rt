@@ -1,7 +1,7 @@
 //! Why a line is not read or not written.
 ghost use Rattle.std.specs.Prelude.{◌≡◌};
-ghost use Rattle.lines.specs.Refusals.{read_number, write_number};
-ghost use Rattle.lines.specs.declared.refusal.ReadRefusal.TheVariants.{Form};
+ghost use Rattle.journal.specs.Refusals.{read_number, write_number};
+ghost use Rattle.journal.specs.declared.refusal.ReadRefusal.TheVariants.{Form};
 
 use fields::field::WrongField;
 

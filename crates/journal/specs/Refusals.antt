@@ -1,9 +1,9 @@
 -- The refusals of the readers and the writers of lines, with their numbers.
 use Rattle.std.specs.Prelude.{ℕ}
-use Rattle.lines.specs.declared.refusal.ReadRefusal.{ReadRefusal}
-use Rattle.lines.specs.declared.refusal.ReadRefusal.TheVariants.{Fields, Form}
-use Rattle.lines.specs.declared.refusal.WriteRefusal.{WriteRefusal}
-use Rattle.lines.specs.declared.refusal.WriteRefusal.TheVariants as writing
+use Rattle.journal.specs.declared.refusal.ReadRefusal.{ReadRefusal}
+use Rattle.journal.specs.declared.refusal.ReadRefusal.TheVariants.{Fields, Form}
+use Rattle.journal.specs.declared.refusal.WriteRefusal.{WriteRefusal}
+use Rattle.journal.specs.declared.refusal.WriteRefusal.TheVariants as writing
 
 -- the number of a refusal of the reader of a line
 abbrev pub read_number : ReadRefusal → ℕ

@@ -1,6 +1,6 @@
 //! The line of names at a journal's start.
 ghost use Rattle.std.specs.Prelude.{◌≡◌};
-ghost use Rattle.lines.specs.Names.{AfterNames, journal_names};
+ghost use Rattle.journal.specs.Names.{AfterNames, journal_names};
 
 const NAMES: &[u8] = b"kind,member,zone,flow,value,second,date\n";
 
