@@ -1,5 +1,5 @@
 -- What a history posts, and the sums of it, told by its calls and their answers alone.
-use Rattle.std.specs.Prelude.{ℕ, ◌+◌, ◌-◌, ◌*◌, Bool, true, false, ◌&&◌, if◌then◌else◌, List, [], ◌∷◌, ◌++◌, map, ℤ, pos, ◌+ℤ◌, ◌-ℤ◌, ◌==◌, slice_get, sum, Ok, Err, Option, Some, None, unwrap_or}
+use Rattle.std.specs.Prelude.{ℕ, ◌+◌, ◌-◌, ◌*◌, Bool, true, false, ◌&&◌, if◌then◌else◌, List, [], ◌∷◌, ◌++◌, map, ℤ, pos, ◌+ℤ◌, ◌-ℤ◌, ◌==◌, slice_get, sum, Ok, Err, Option, Some, None}
 use Rattle.std.specs.Option.{option_map_or}
 use Rattle.ledger.specs.Zones.{in_zone}
 use Rattle.ledger.specs.declared.bill.Bill.{Bill}
@@ -16,7 +16,6 @@ use Rattle.tariff.specs.declared.class.Class.TheVariants.{Other}
 use Rattle.tariff.specs.declared.service.Service.{Service}
 use Rattle.tariff.specs.declared.service.Service.TheVariants as service
 use Rattle.group.specs.Members.{class_of, standing_at}
-use Rattle.group.specs.Registers.{quantity}
 use Rattle.group.specs.declared.member.OpeningRecord.{OpeningRecord}
 use Rattle.steps.specs.Months.{Prices}
 use Rattle.balance.specs.Histories.{Event, Opening, Entering, Drawing, Checking, Issuing, Withdrawing, Closing}
@@ -77,10 +76,14 @@ last_value (Entered (Reading of day value) ∷ earlier) at = if same_register of
 last_value (Entered (Change of day value start) ∷ earlier) at = if same_register of at then start else last_value earlier at
 last_value (other ∷ earlier) at = last_value earlier at
 
+-- the kWh that a meter counts from the last value to another
+abbrev pub counted_between : (last value : ℕ) → ℤ
+counted_between last value = pos value -ℤ pos last
+
 -- the register and the kWh of an entry after those that were posted before it: a reading's or a final value's count from the last value, and a correction is its own; a payment has none
 abbrev pub energy : List Posting → Entry → Option (MemberRegister × ℤ)
-energy earlier (Reading of day value) = Some (of, pos (unwrap_or (quantity (last_value earlier of) value) 0))
-energy earlier (Change of day value start) = Some (of, pos (unwrap_or (quantity (last_value earlier of) value) 0))
+energy earlier (Reading of day value) = Some (of, counted_between (last_value earlier of) value)
+energy earlier (Change of day value start) = Some (of, counted_between (last_value earlier of) value)
 energy earlier (Correction of kwh) = Some (of, kwh)
 energy earlier (Payment place drams) = None
 
