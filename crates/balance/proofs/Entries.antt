@@ -1,5 +1,5 @@
 -- Every entry keeps what a history keeps.
-use Rattle.std.proofs.Common.{Bool, ◌≡◌, ◌≢◌, ℕ, ◌*◌, ◌&&◌, ◌==◌, true, false, if◌then◌else◌, List, ◌∷◌, ℤ, pos, ◌+ℤ◌, ◌-ℤ◌, slice_get, Some, Ok, Result, unwrap_or, ⊎_elim, refl, sym, ap, ap₂, ◌∙◌, subst, arith}
+use Rattle.std.proofs.Common.{Bool, ◌≡◌, ◌≢◌, ℕ, ◌*◌, ◌&&◌, ◌==◌, true, false, if◌then◌else◌, List, ◌∷◌, ℤ, pos, ◌+ℤ◌, ◌-ℤ◌, slice_get, Some, Ok, Result, ⊎_elim, refl, sym, ap, ap₂, ◌∙◌, subst, arith}
 use Rattle.std.proofs.lemmas.Bool.Decides.{nat_tests}
 use Rattle.std.proofs.lemmas.Grind.{common_steps}
 use Rattle.std.proofs.lemmas.Int.{ints}
@@ -31,7 +31,7 @@ use Rattle.balance.proofs.Found.{found_after_set, sum_of-set}
 use Rattle.balance.proofs.Kept.{Kept, MonthKept}
 use Rattle.balance.proofs.Slots.{register_replaced, slot, tally_in, tally_replaced}
 use Rattle.balance.specs.Balances.{EnergyBalances}
-use Rattle.balance.specs.Postings.{Entered, Posting, class_at, energy, energy_in, last_value, owed, same_flow, same_register, same_zone}
+use Rattle.balance.specs.Postings.{Entered, Posting, class_at, counted_between, energy, energy_in, last_value, owed, same_flow, same_register, same_zone}
 
 -- in an open month an entry moves no month
 month_kept : (phase : Phase) (month : ℕ) (entry : Entry) (posted : List Posting) → phase ≡ Open month → MonthKept phase posted → MonthKept phase (Entered entry ∷ posted)
@@ -102,9 +102,20 @@ register_entered prices posted group entry month of kwh member register kept ope
       month = month_kept group.phase month entry posted opened kept.month;
     }
 
--- what is read of a register
-read_counts : (month day value next : ℕ) (r after : Register) → read month day value next r ≡ Ok after → after.tally ≡ r.tally +ℤ pos (unwrap_or (quantity r.standing value) 0)
-read_counts month day value next r after is = grind (arith, nat_tests, common_steps)
+-- a quantity is what a meter counts
+quantity_counts : (standing value kwh : ℕ) → quantity standing value ≡ Some kwh → pos kwh ≡ counted_between standing value
+unfolding quantity
+quantity_counts standing value kwh is = grind (arith, ints, nat_tests)
+
+-- a reading adds its quantity
+read_adds : (month day value next : ℕ) (r after : Register) → read month day value next r ≡ Ok after → (kwh : ℕ) × (quantity r.standing value ≡ Some kwh) × (after.tally ≡ r.tally +ℤ pos kwh)
+read_adds month day value next r after is = grind (arith, nat_tests, common_steps)
+
+-- so it adds what the meter counts
+read_counts : (month day value next : ℕ) (r after : Register) → read month day value next r ≡ Ok after → after.tally ≡ r.tally +ℤ counted_between r.standing value
+read_counts month day value next r after is =
+    let (kwh, is_quantity, adds) = read_adds month day value next r after is in
+    adds ∙ ap (λ n. r.tally +ℤ n) (quantity_counts r.standing value kwh is_quantity)
 
 read_stands : (month day value next : ℕ) (r after : Register) → read month day value next r ≡ Ok after → after.standing ≡ next
 read_stands month day value next r after is = grind (arith, nat_tests, common_steps)
@@ -157,7 +168,7 @@ read_kept : (prices : ℕ → Prices) (posted : List Posting) (old new : Group) 
     → Kept prices posted old
     → old.phase ≡ Open month
     → altered of.place (on_register of (read month day value next)) old ≡ Ok new
-    → energy posted entry ≡ Some (of, pos (unwrap_or (quantity (last_value posted of) value) 0))
+    → energy posted entry ≡ Some (of, counted_between (last_value posted of) value)
     → ((at : MemberRegister) → last_value (Entered entry ∷ posted) at ≡ (if same_register of at then next else last_value posted at))
     → ((place : ℕ) → owed prices place (Entered entry ∷ posted) ≡ owed prices place posted)
     → Kept prices (Entered entry ∷ posted) new
@@ -167,9 +178,9 @@ read_kept prices posted old new month entry of day value next kept opened is tol
     let stood = kept.standings of member found in
     let stands = read_stands month day value next (register_at of member) register took in
     subst (λ g. Kept prices (Entered entry ∷ posted) g) same (subst (λ m. Kept prices (Entered entry ∷ posted) (entered of.place m old)) becomes
-    (register_entered prices posted old entry month of (pos (unwrap_or (quantity (register_at of member).standing value) 0)) member register kept opened found
+    (register_entered prices posted old entry month of (counted_between (register_at of member).standing value) member register kept opened found
     (read_counts month day value next (register_at of member) register took)
-    (told ∙ ap (λ n. Some (of, pos (unwrap_or (quantity n value) 0))) (sym stood))
+    (told ∙ ap (λ n. Some (of, counted_between n value)) (sym stood))
     (λ at. lasts at ∙ ap (λ n. if same_register of at then n else last_value posted at) (sym stands))
     owes))
 

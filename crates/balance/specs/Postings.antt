@@ -1,5 +1,5 @@
 -- What a history posts, and the sums of it, told by its calls and their answers alone.
-use Rattle.std.specs.Prelude.{ℕ, ◌+◌, ◌-◌, ◌*◌, Bool, true, false, ◌&&◌, if◌then◌else◌, List, [], ◌∷◌, ◌++◌, map, ℤ, pos, ◌+ℤ◌, ◌-ℤ◌, ◌==◌, slice_get, sum, Ok, Err, Option, Some, None, unwrap_or}
+use Rattle.std.specs.Prelude.{ℕ, ◌+◌, ◌-◌, ◌*◌, Bool, true, false, ◌&&◌, if◌then◌else◌, List, [], ◌∷◌, ◌++◌, map, ℤ, pos, ◌+ℤ◌, ◌-ℤ◌, ◌==◌, slice_get, sum, Ok, Err, Option, Some, None}
 use Rattle.std.specs.Option.{option_map_or}
 use Rattle.ledger.specs.Zones.{in_zone}
 use Rattle.ledger.specs.declared.bill.Bill.{Bill}
@@ -16,7 +16,6 @@ use Rattle.tariff.specs.declared.class.Class.TheVariants.{Other}
 use Rattle.tariff.specs.declared.service.Service.{Service}
 use Rattle.tariff.specs.declared.service.Service.TheVariants as service
 use Rattle.group.specs.Members.{class_of, standing_at}
-use Rattle.group.specs.Registers.{quantity}
 use Rattle.group.specs.declared.member.OpeningRecord.{OpeningRecord}
 use Rattle.group.specs.Months.{Prices}
 use Rattle.balance.specs.Histories.{Event, Opening, Entering, Drawing, Checking, Issuing, Withdrawing, Closing}
@@ -75,15 +74,16 @@ last_value [] at = 0
 last_value (Opened start holder records ∷ earlier) at = opening_value records at
 last_value (Entered (Reading of day value) ∷ earlier) at = if same_register of at then value else last_value earlier at
 last_value (Entered (Change of day value start) ∷ earlier) at = if same_register of at then start else last_value earlier at
-last_value (Entered (Correction of kwh) ∷ earlier) at = last_value earlier at
-last_value (Entered (Payment place drams) ∷ earlier) at = last_value earlier at
-last_value (Issued lines ∷ earlier) at = last_value earlier at
-last_value (YearPaid figures ∷ earlier) at = last_value earlier at
+last_value (other ∷ earlier) at = last_value earlier at
+
+-- the kWh that a meter counts from the last value to another
+abbrev pub counted_between : (last value : ℕ) → ℤ
+counted_between last value = pos value -ℤ pos last
 
 -- the register and the kWh of an entry after those that were posted before it: a reading's or a final value's count from the last value, and a correction is its own; a payment has none
 abbrev pub energy : List Posting → Entry → Option (MemberRegister × ℤ)
-energy earlier (Reading of day value) = Some (of, pos (unwrap_or (quantity (last_value earlier of) value) 0))
-energy earlier (Change of day value start) = Some (of, pos (unwrap_or (quantity (last_value earlier of) value) 0))
+energy earlier (Reading of day value) = Some (of, counted_between (last_value earlier of) value)
+energy earlier (Change of day value start) = Some (of, counted_between (last_value earlier of) value)
 energy earlier (Correction of kwh) = Some (of, kwh)
 energy earlier (Payment place drams) = None
 
@@ -95,20 +95,17 @@ energy_in zone flow (Some (of, kwh)) = if same_zone of.zone zone && same_flow of
 -- the kWh of all entries in a zone and a flow
 abbrev pub entered_in : Zone → Flow → List Posting → ℤ
 entered_in zone flow [] = pos 0
-entered_in zone flow (Opened start holder records ∷ earlier) = entered_in zone flow earlier
 entered_in zone flow (Entered entry ∷ earlier) =
     entered_in zone flow earlier +ℤ energy_in zone flow (energy earlier entry)
-entered_in zone flow (Issued lines ∷ earlier) = entered_in zone flow earlier
-entered_in zone flow (YearPaid figures ∷ earlier) = entered_in zone flow earlier
+entered_in zone flow (other ∷ earlier) = entered_in zone flow earlier
 
 -- the kWh of the entries since the last issue in a zone and a flow
 abbrev pub open_in : Zone → Flow → List Posting → ℤ
 open_in zone flow [] = pos 0
-open_in zone flow (Opened start holder records ∷ earlier) = open_in zone flow earlier
 open_in zone flow (Entered entry ∷ earlier) =
     open_in zone flow earlier +ℤ energy_in zone flow (energy earlier entry)
 open_in zone flow (Issued lines ∷ earlier) = pos 0
-open_in zone flow (YearPaid figures ∷ earlier) = open_in zone flow earlier
+open_in zone flow (other ∷ earlier) = open_in zone flow earlier
 
 -- the kWh that are billed in a zone by lines
 abbrev pub billed_by : Zone → List Bill → ℕ
@@ -117,42 +114,33 @@ billed_by zone lines = sum (map (λ line. in_zone line.billed zone) lines)
 -- the kWh that all issues billed in a zone
 abbrev pub billed : Zone → List Posting → ℕ
 billed zone [] = 0
-billed zone (Opened start holder records ∷ earlier) = billed zone earlier
-billed zone (Entered entry ∷ earlier) = billed zone earlier
 billed zone (Issued lines ∷ earlier) = billed zone earlier + billed_by zone lines
-billed zone (YearPaid figures ∷ earlier) = billed zone earlier
+billed zone (other ∷ earlier) = billed zone earlier
 
 -- the kWh that all year ends paid in a zone
 abbrev pub paid_in : Zone → List Posting → ℕ
 paid_in zone [] = 0
-paid_in zone (Opened start holder records ∷ earlier) = paid_in zone earlier
-paid_in zone (Entered entry ∷ earlier) = paid_in zone earlier
-paid_in zone (Issued lines ∷ earlier) = paid_in zone earlier
 paid_in zone (YearPaid figures ∷ earlier) = paid_in zone earlier + in_zone figures.paid zone
+paid_in zone (other ∷ earlier) = paid_in zone earlier
 
 -- what the opening told: the holder's place, and the class of the member at a place
 abbrev pub holder_in : List Posting → ℕ
 holder_in [] = 0
 holder_in (Opened start holder records ∷ earlier) = holder
-holder_in (Entered entry ∷ earlier) = holder_in earlier
-holder_in (Issued lines ∷ earlier) = holder_in earlier
-holder_in (YearPaid figures ∷ earlier) = holder_in earlier
+holder_in (other ∷ earlier) = holder_in earlier
 
 -- the class of the member at a place, by its opening record
 abbrev pub class_at : (place : ℕ) → List Posting → Class
 class_at place [] = Other
 class_at place (Opened start holder records ∷ earlier) = option_map_or class_of (slice_get records place) Other
-class_at place (Entered entry ∷ earlier) = class_at place earlier
-class_at place (Issued lines ∷ earlier) = class_at place earlier
-class_at place (YearPaid figures ∷ earlier) = class_at place earlier
+class_at place (other ∷ earlier) = class_at place earlier
 
 -- the month after the last issue: the start month, and one more for each issue
 abbrev pub month_after : List Posting → ℕ
 month_after [] = 0
 month_after (Opened start holder records ∷ earlier) = start
-month_after (Entered entry ∷ earlier) = month_after earlier
 month_after (Issued lines ∷ earlier) = month_after earlier + 1
-month_after (YearPaid figures ∷ earlier) = month_after earlier
+month_after (other ∷ earlier) = month_after earlier
 
 -- what a line charges, in hundredths of a dram: billed kWh at the zone's energy price and covered ones at that of distribution
 abbrev pub charge : (Service → ℕ) → Bill → ℕ
@@ -173,10 +161,6 @@ priced prices month class service' = prices month service' class
 -- less its payments, less, for the holder, what the year ends credit at the prices of the December issued before
 abbrev pub owed : (ℕ → Prices) → (place : ℕ) → List Posting → ℤ
 owed prices place [] = pos 0
-owed prices place (Opened start holder records ∷ earlier) = owed prices place earlier
-owed prices place (Entered (Reading of day value) ∷ earlier) = owed prices place earlier
-owed prices place (Entered (Change of day value start) ∷ earlier) = owed prices place earlier
-owed prices place (Entered (Correction of kwh) ∷ earlier) = owed prices place earlier
 owed prices place (Entered (Payment payer drams) ∷ earlier) =
     owed prices place earlier -ℤ pos (if payer == place then 100 * drams else 0)
 owed prices place (Issued lines ∷ earlier) =
@@ -185,3 +169,4 @@ owed prices place (Issued lines ∷ earlier) =
 owed prices place (YearPaid figures ∷ earlier) =
     let price = priced prices (month_after earlier - 1) (class_at place earlier) in
     owed prices place earlier -ℤ pos (if holder_in earlier == place then credit price figures else 0)
+owed prices place (other ∷ earlier) = owed prices place earlier
