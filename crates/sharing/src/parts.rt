@@ -13,7 +13,7 @@ use arrayvec::ArrayVec;
 pub const WHOLE: u64 = 10_000;
 
 /// A layer over any rule: each place first gets its part of the pool, and the rule below shares the rest.
-#[derive(Drop)]
+#[derive(Debug, Drop)]
 pub struct Parts<R> {
     parts: [u64; PLACES],
     rule: R,
