@@ -1,6 +1,7 @@
 -- The table of the code follows the calendar, by one test that is computed along the whole of it.
 use Rattle.std.proofs.Common.{◌≡◌, ℕ, zero, suc, ◌+◌, ◌-◌, ◌<◌, ◌≤◌, Bool, true, false, ◌&&◌, eqb, leb, List, [], ◌∷◌, length, get_or, drop, Some, sym, refl, ap, ◌∙◌, ⊎_elim, add_comm, add-zero, add-suc, suc-add, zero-add, arith}
 use Rattle.std.proofs.lemmas.Bool.{and_parts, cases_lt, eqb-true, le-leb, lt-leb, leb-false, leb-true}
+use Rattle.std.proofs.lemmas.List.{get_or-drop}
 use Rattle.std.specs.Bool.{then_some}
 use Rattle.std.specs.List.Sorted.{IsNonDecreasing, IsPartitionPoint}
 use Rattle.calendar.proofs.Months.{first_mono, last_first, only_month}
@@ -19,15 +20,20 @@ from (x ∷ xs) month holds zero d within = eqb-true x (first_day month) (and_pa
 from (x ∷ xs) month holds (suc k) d within =
     from xs (suc month) (and_parts (eqb x (first_day month)) _ holds).1 k d (omega arith) ∙ ap first_day (suc-add month k ∙ sym (add-suc month k))
 
-pub entry_is : (k : ℕ) → k < 1201 → get_or FIRST_DAYS k 0 ≡ first_day k
-entry_is k within = from FIRST_DAYS 0 refl k 0 within ∙ ap first_day (zero-add k)
+-- the rule, computed once over the whole table
+table_follows : follows 0 (first_day 0) FIRST_DAYS ≡ true
+table_follows = refl
+
+-- and carried to each entry
+pub entry_is : (k d : ℕ) → k < 1201 → get_or FIRST_DAYS k d ≡ first_day k
+entry_is k d within = from FIRST_DAYS 0 table_follows k d within ∙ ap first_day (zero-add k)
 
 -- the entries from February 2000 on
 abbrev pub later : List ℕ
 later = drop 1 FIRST_DAYS
 
 later_is : (k d : ℕ) → k < 1200 → get_or later k d ≡ first_day (k + 1)
-later_is k d within = from later 1 refl k d within ∙ ap first_day (add_comm 1 k)
+later_is k d within = get_or-drop 1 FIRST_DAYS k d ∙ entry_is (1 + k) d (omega arith) ∙ ap first_day (add_comm 1 k)
 
 pub later_rise : IsNonDecreasing later
 later_rise i j d le within =

@@ -1,7 +1,7 @@
 -- Dates, and the days that they are.
 use Rattle.std.specs.Prelude.{◌≡◌, ℕ, zero, suc, ◌+◌, ◌-◌, ◌*◌, ◌%◌, ◌<◌, ◌≤◌, Bool, true, ◌&&◌, if◌then◌else◌, Some, None, Option, MatchOption, ◌≢◌, nat_le, nat_lt, slice_index}
 use Rattle.std.specs.Option.{SomeIff}
-use Rattle.calendar.specs.Gregorian.{first_day, length_of, lengths, lies_in, year_of}
+use Rattle.calendar.specs.Gregorian.{first_day, last_day, last_month, length_of, lengths, lies_in, year_of}
 use Rattle.calendar.specs.declared.date.Date.{Date}
 
 -- a year from 2000 to 2099, a month from 1 to 12, and a day from 1 to as many as that month has
@@ -43,24 +43,24 @@ date_after (suc k) month after =
 
 -- the date of a day
 unfoldable pub date_of_day : ℕ → Date
-date_of_day day = date_after 1199 0 day
+date_of_day day = date_after last_month 0 day
 
 -- the one month in which the day lies, or none where it lies past the last
 abbrev pub MonthOf : ℕ → Option ℕ → Type 0
 MonthOf day r =
-    MatchOption r (36524 < day)
-    (λ month. (month ≤ 1199) × (first_day month ≤ day) × (day < first_day (month + 1))
+    MatchOption r (last_day < day)
+    (λ month. (month ≤ last_month) × (first_day month ≤ day) × (day < first_day (month + 1))
     × ((m : ℕ) → lies_in day m ≡ true → m ≡ month))
 
 -- the one date that is this day, or none past the last day, which no date is
 abbrev pub DateOf : ℕ → Option Date → Type 0
 DateOf day r =
-    MatchOption r ((36524 < day) × ((e : Date) → day_of_date e ≢ Some day))
+    MatchOption r ((last_day < day) × ((e : Date) → day_of_date e ≢ Some day))
     (λ d. (day_of_date d ≡ Some day) × ((e : Date) → day_of_date e ≡ Some day → e ≡ d))
 
 -- from a day to its date and back is the same day, and from a date to its day and back the same date
 pub record Agree : Type 0 where
-  pub day_date_day : (day : ℕ) (r : Option Date) → day ≤ 36524 → DateOf day r
+  pub day_date_day : (day : ℕ) (r : Option Date) → day ≤ last_day → DateOf day r
       → MatchOption r ⊥ (λ d. day_of_date d ≡ Some day)
   pub date_day_date : (d : Date) (day : ℕ) (r : Option Date) → day_of_date d ≡ Some day → DateOf day r
       → r ≡ Some d

@@ -23,7 +23,15 @@ abbrev pub first_day : ℕ → ℕ
 first_day zero = 0
 first_day (suc month) = first_day month + length_of month
 
+-- the last month, December 2099
+abbrev pub last_month : ℕ
+last_month = 1199
+
+-- the last day, 31 December 2099
+abbrev pub last_day : ℕ
+last_day = 36524
+
 -- the day lies in the month, which is one of the 1,200 from January 2000 to December 2099
 abbrev pub lies_in : (day month : ℕ) → Bool
 lies_in day month =
-    nat_le month 1199 && (nat_le (first_day month) day && nat_lt day (first_day (month + 1)))
+    nat_le month last_month && (nat_le (first_day month) day && nat_lt day (first_day (month + 1)))

@@ -2,7 +2,7 @@
 ghost use Rattle.std.specs.Prelude.{◌≡◌, ◌+◌, ◌-◌, ◌<◌, ◌≤◌, if◌then◌else◌, Some, None, nat_le};
 ghost use Rattle.std.specs.Option.{SomeIff};
 ghost use Rattle.calendar.specs.Dates.{Agree, DateOf, MonthIn, date_in, date_of_day, day_of_date};
-ghost use Rattle.calendar.specs.Gregorian.{first_day, length_of};
+ghost use Rattle.calendar.specs.Gregorian.{first_day, last_day, last_month, length_of};
 
 use crate::days::{Day, Month, first, month_of};
 
@@ -59,7 +59,7 @@ pub fn day_of(date: Date) -> Option<Day>
 
 // The day of a month so counted from 1, or none where the month has no such day.
 fn day_in(month: Month, day: u8) -> Option<Day>
-    requires { month ≤ 1199 }
+    requires { month ≤ last_month }
     ensures { SomeIff result ((1 ≤ day) × (day ≤ length_of month)) (first_day month + (day - 1)) }
 {
     let begins = first(month);
@@ -72,7 +72,7 @@ fn day_in(month: Month, day: u8) -> Option<Day>
 /// The date of a day, or none past the last day; dates and days agree, there and back.
 pub fn date_of(day: Day) -> Option<Date>
     ensures date { DateOf day result }
-    ensures named { result ≡ (if nat_le day 36524 then Some (date_of_day day) else None) }
+    ensures named { result ≡ (if nat_le day last_day then Some (date_of_day day) else None) }
     ensures agree { Agree }
 {
     let month = month_of(day)?;

@@ -1,7 +1,7 @@
 //! Days and months by their numbers: day 0 is 1 January 2000, and month 0 is January 2000.
-ghost use Rattle.std.specs.Prelude.{◌≡◌, ◌≤◌, ◌↔◌, IsTrue, if◌then◌else◌, Some, None, nat_le};
+ghost use Rattle.std.specs.Prelude.{◌≡◌, ◌+◌, ◌≤◌, ◌↔◌, IsTrue, if◌then◌else◌, Some, None, nat_le};
 ghost use Rattle.calendar.specs.Dates.{MonthOf};
-ghost use Rattle.calendar.specs.Gregorian.{first_day, lies_in};
+ghost use Rattle.calendar.specs.Gregorian.{first_day, last_month, lies_in};
 
 use crate::table::FIRST_DAYS;
 
@@ -19,7 +19,7 @@ pub const LAST_MONTH: Month = 1_199;
 
 // The first day of a month up to January 2100.
 pub(crate) fn first(month: Month) -> Day
-    requires { month ≤ 1200 }
+    requires { month ≤ last_month + 1 }
     ensures { result ≡ first_day month }
 {
     FIRST_DAYS[month as usize]
@@ -27,7 +27,7 @@ pub(crate) fn first(month: Month) -> Day
 
 /// The first day of a month, or none past the last month.
 pub fn first_day_of(month: Month) -> Option<Day>
-    ensures { result ≡ (if nat_le month 1199 then Some (first_day month) else None) }
+    ensures { result ≡ (if nat_le month last_month then Some (first_day month) else None) }
 {
     (month <= LAST_MONTH).then(|| first(month))
 }

@@ -117,9 +117,29 @@ sum_less (x ∷ xs) [] same within = omega arith
 sum_less (x ∷ xs) (y ∷ ys) same within =
     omega (arith, sum_cons (x - y) (less xs ys), sum_cons x xs, sum_cons y ys, within zero, sum_less xs ys (omega arith) (λ k. within (suc k)))
 
+-- ---- shares added to shares
+
+-- shares within the needs and the pool, and shares of what they leave of the pool that keep the law for what they leave of the
+-- needs, are together shares of the whole that keep the law
+pub together_fair : (pool : ℕ) (needs first after : List ℕ)
+    → length first ≡ length needs → ((place : ℕ) → slice_index first place ≤ slice_index needs place) → sum first ≤ pool
+    → Fair (pool - sum first) (less needs first) after → Fair pool needs (plus first after)
+together_fair pool needs first after as_many within fits rest = record {
+  as_many = length_plus first after (as_many ∙ sym (length_less needs first) ∙ sym rest.as_many) ∙ as_many;
+  within = λ k. omega (arith, get_or_plus first after k, rest.within k, get_or_less needs first k, within k);
+  whole = omega (arith, sum_plus first after, rest.whole, sum_less needs first as_many within);
+}
+
+-- so are shares that keep the law for a part of each need, and shares of what these leave
+pub layered_fair : (pool : ℕ) (needs some first after : List ℕ)
+    → length some ≡ length needs → ((place : ℕ) → slice_index some place ≤ slice_index needs place) → Fair pool some first
+    → Fair (pool - sum first) (less needs first) after → Fair pool needs (plus first after)
+layered_fair pool needs some first after as_many within fair rest =
+    together_fair pool needs first after (fair.as_many ∙ as_many) (λ k. le_trans (fair.within k) (within k)) (omega (arith, fair.whole)) rest
+
 -- ---- parts
 
-reserved_as_many : (pool : ℕ) (parts needs : List ℕ) → length (reserved pool parts needs) ≡ length needs
+pub reserved_as_many : (pool : ℕ) (parts needs : List ℕ) → length (reserved pool parts needs) ≡ length needs
 reserved_as_many pool parts [] = refl
 reserved_as_many pool [] (need ∷ needs) = ap suc (reserved_as_many pool [] needs)
 reserved_as_many pool (part ∷ parts) (need ∷ needs) = ap suc (reserved_as_many pool parts needs)
@@ -147,12 +167,5 @@ module _ (below : ℕ → List ℕ → List ℕ) (law : (pool : ℕ) (needs : Li
   pub with_parts_fair : (parts : List ℕ) → sum parts ≤ 10000 → (pool : ℕ) (needs : List ℕ) → Fair pool needs (with_parts below parts pool needs)
   with_parts_fair parts whole pool needs =
       let first = reserved pool parts needs in
-      let rest = less needs first in
-      let shares = below (pool - sum first) rest in
-      let fair = law (pool - sum first) rest in
-      let as_many = reserved_as_many pool parts needs in
-      record {
-        as_many = length_plus first shares (as_many ∙ sym (length_less needs first) ∙ sym fair.as_many) ∙ as_many;
-        within = λ k. omega (arith, get_or_plus first shares k, fair.within k, get_or_less needs first k, reserved_within pool parts needs k);
-        whole = omega (arith, sum_plus first shares, fair.whole, sum_less needs first as_many (reserved_within pool parts needs), reserved_in_pool pool parts needs whole);
-      }
+      together_fair pool needs first _ (reserved_as_many pool parts needs) (reserved_within pool parts needs) (reserved_in_pool pool parts needs whole)
+      (law (pool - sum first) (less needs first))

@@ -1,4 +1,5 @@
 pub mod Fair
+pub mod Limits
 pub mod Refusals
 pub mod Rules
 pub mod Layer

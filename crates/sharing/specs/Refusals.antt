@@ -1,6 +1,7 @@
 -- The refusals of this crate: the number of each, what it stands for, and what a call answers and leaves.
 use Rattle.std.specs.Prelude.{ℕ, Bool, if◌then◌else◌, not, ◌||◌, List, ◌++◌, length, Ok, Err, codes, decimal, sum, Result, ◌==◌, nat_lt}
 use Rattle.std.specs.List.{list_any}
+use Rattle.sharing.specs.Limits.{most_places}
 use Rattle.sharing.specs.declared.refusal.ShareRefusal.{ShareRefusal}
 use Rattle.sharing.specs.declared.refusal.ShareRefusal.TheVariants.{Count, Size}
 use Rattle.sharing.specs.declared.parts_refusal.PartsRefusal.{PartsRefusal}
@@ -21,7 +22,7 @@ abbrev pub meaning : ShareRefusal → Meaning (ℕ → List ℕ → ℕ → Bool
 meaning Count = record {
   number = 7;
   words = codes "there are not 1 to 32 needs, or not as many places for shares";
-  stands = λ pool needs places. nat_lt (length needs) 1 || nat_lt 32 (length needs) || not (places == length needs);
+  stands = λ pool needs places. nat_lt (length needs) 1 || nat_lt most_places (length needs) || not (places == length needs);
 }
 meaning Size = record {
   number = 8;
@@ -34,7 +35,7 @@ abbrev pub parts_meaning : PartsRefusal → Meaning (List ℕ → Bool)
 parts_meaning Parts = record {
   number = 9;
   words = codes "there are not 32 parts, or they add up to over 10000";
-  stands = λ parts. not ((length parts) == 32) || nat_lt 10000 (sum parts);
+  stands = λ parts. not ((length parts) == most_places) || nat_lt 10000 (sum parts);
 }
 
 -- a refusal as it is printed

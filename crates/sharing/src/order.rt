@@ -6,7 +6,7 @@ use crate::refusal::ShareRefusal;
 use crate::rule::{SharingRule, admit};
 
 /// Line order: the places one after another, each with the smaller of its need and what is left.
-#[derive(Clone, Copy)]
+#[derive(Clone, Copy, Debug)]
 pub struct LineOrder;
 
 impl SharingRule for LineOrder {

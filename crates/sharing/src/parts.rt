@@ -1,5 +1,6 @@
 //! Parts, a layer over any rule.
 ghost use Rattle.std.specs.Prelude.{◌≡◌, ◌≤◌, replicate, sum};
+ghost use Rattle.sharing.specs.Limits.{most_places};
 ghost use Rattle.sharing.specs.Refusals.{parts_answer, written};
 ghost use Rattle.sharing.specs.Rules.{ahead, with_parts};
 ghost use Rattle.sharing.specs.Fairness.{with_parts_fair};
@@ -13,7 +14,7 @@ use arrayvec::ArrayVec;
 pub const WHOLE: u64 = 10_000;
 
 /// A layer over any rule: each place first gets its part of the pool, and the rule below shares the rest.
-#[derive(Drop)]
+#[derive(Debug, Drop)]
 pub struct Parts<R> {
     parts: [u64; PLACES],
     rule: R,
@@ -25,7 +26,7 @@ impl<R> Parts<R> {
 
     /// The layer over `rule` in which every part is 0.
     pub fn over(rule: R) -> Parts<R>
-        ensures parts { parts_of result ≡ replicate 32 0 }
+        ensures parts { parts_of result ≡ replicate most_places 0 }
         ensures below { rule_below result ≡ rule }
     {
         Parts {

@@ -2,6 +2,7 @@
 ghost use Rattle.std.specs.Prelude.{◌≡◌, Some};
 ghost use Rattle.sharing.specs.Refusals.{parts_meaning, told};
 
+use std::error::Error;
 use std::fmt;
 
 /// The refusal of the call that sets the parts.
@@ -41,3 +42,5 @@ impl fmt::Display for PartsRefusal {
         write!(f, "{}: {}", self.number(), self.words())
     }
 }
+
+impl Error for PartsRefusal {}

@@ -7,7 +7,7 @@ use crate::refusal::ShareRefusal;
 use crate::rule::{SharingRule, admit, saturating_sum};
 
 /// Proportion: what is given is shared by need, and what rounding holds back from a place is carried on to those after it.
-#[derive(Clone, Copy)]
+#[derive(Clone, Copy, Debug)]
 pub struct Proportion;
 
 impl SharingRule for Proportion {

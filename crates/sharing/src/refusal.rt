@@ -2,6 +2,7 @@
 ghost use Rattle.std.specs.Prelude.{◌≡◌, Some};
 ghost use Rattle.sharing.specs.Refusals.{meaning, told};
 
+use std::error::Error;
 use std::fmt;
 
 /// The refusals of a sharing rule's call.
@@ -44,3 +45,5 @@ impl fmt::Display for ShareRefusal {
         write!(f, "{}: {}", self.number(), self.words())
     }
 }
+
+impl Error for ShareRefusal {}

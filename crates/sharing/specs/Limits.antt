@@ -1,0 +1,6 @@
+-- The limits of what is shared that stand in many specs, each by its name.
+use Rattle.std.specs.Prelude.{ℕ}
+
+-- the most places among which a pool is shared
+abbrev pub most_places : ℕ
+most_places = 32
