@@ -1,4 +1,4 @@
--- The three sharing rules, each as a function from a pool and a list of needs to a list of shares.
+-- What each of the three rules makes of a pool and a list of needs.
 use Rattle.std.specs.Prelude.{ℕ, ◌+◌, ◌-◌, ◌*◌, ◌/◌, min, List, [], ◌∷◌, sum}
 use Rattle.sharing.specs.Fair.{plus, less}
 
