@@ -13,7 +13,7 @@ use Rattle.group.specs.Years.{closed}
 use Rattle.balance.specs.Balances.{BalancedThroughout}
 use Rattle.balance.specs.Histories.{Event, Opening, Entering, Drawing, Checking, Issuing, Withdrawing, Closing}
 
--- a call; a draft that is handed in may have any three numbers
+-- a call; whatever three numbers a draft has, it can be handed in
 pub data Call : Type 0 where
   Open : (number start holder : ℕ) → List OpeningRecord → Call
   Enter : Entry → Call

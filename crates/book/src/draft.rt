@@ -44,7 +44,7 @@ impl Draft {
         self.month
     }
 
-    // Whether the draft is current.
+    // Whether it tells of the group as it stands.
     pub(crate) fn is_current(&self, group: &Group) -> bool
         ensures { result ≡ is_current group.now self.now }
     {

@@ -1,4 +1,4 @@
-//! The settlement book of a group.
+//! The book that settles a group, and its drafts.
 #![tactic(auto)]
 
 pub mod book;

@@ -103,7 +103,7 @@ fn values_are_in_their_range(rt: HostRuntime) {
         (correction(0, Zone::Night, 1_000_001), Some(16)),
         (correction(0, Zone::Day, -1_000_001), Some(16)),
         (correction(0, Zone::Day, i32::MIN), Some(16)),
-        // The tally would leave its range as well.
+        // These would be refused by 18, too, were it not for the order.
         (correction(0, Zone::Day, 1_000_001), Some(16)),
         (correction(0, Zone::Day, i32::MAX), Some(16)),
         (payment(0, 0), Some(16)),

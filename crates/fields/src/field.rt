@@ -15,7 +15,7 @@ pub struct Field<'a> {
     pub part: &'a [u8],
 }
 
-/// The number of a field that has not its form.
+/// Which field of a line is wrong.
 #[derive(Clone, Copy, PartialEq, Eq, Debug)]
 pub struct WrongField {
     /// The number, counted from 1.
@@ -37,7 +37,7 @@ impl<'a> Field<'a> {
         token_of(self.part)
     }
 
-    /// That this field has not its form.
+    /// That it is this field that is wrong.
     pub fn wrong(self) -> WrongField
         ensures { result.number ≡ self.entry.number }
     {

@@ -29,7 +29,7 @@ capacities_fit records =
     list_all (λ opening. nat_le (capacity_of opening) 150) records
     && nat_le (sum_by capacity_of records) 1050
 
--- the place has a record with capacity above 0
+-- somebody stands at this place, and has at least 1 kW
 abbrev pub is_producer : (place : ℕ) → List OpeningRecord → Bool
 is_producer place records = option_map_or (λ opening. nat_lt 0 (capacity_of opening)) (slice_get records place) false
 

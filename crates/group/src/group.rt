@@ -182,7 +182,7 @@ fn capacities_fit(records: &[OpeningRecord]) -> bool
     sum <= MOST_CAPACITIES
 }
 
-// Whether the place has a record with capacity above 0.
+// Whether somebody stands at this place, and has at least 1 kW.
 fn is_producer(place: usize, records: &[OpeningRecord]) -> bool
     ensures { result ≡ is_producer place records.now }
 {

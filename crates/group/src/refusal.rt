@@ -5,39 +5,39 @@ ghost use Rattle.group.specs.Refusals.{number_of};
 /// The refusals of the book's calls.
 #[derive(Clone, Copy, PartialEq, Eq, Debug)]
 pub enum BookRefusal {
-    /// The book was opened before.
+    /// A group stands in this book already.
     Opened,
-    /// There are not 1 to 32 records.
+    /// The list of members is empty, or longer than a group may be.
     Count,
-    /// The start month is over 1199.
+    /// The group would begin after December 2099.
     Start,
-    /// A capacity is over 150 kW, or their sum over 1,050 kW.
+    /// One member has more than 150 kW, or all together have more than 1,050 kW.
     Capacity,
-    /// The holder's place has no record with capacity above 0.
+    /// Nobody stands at the place named for the holder, or somebody without a kW.
     Holder,
-    /// An opening register is over 9,999,999 kWh.
+    /// A meter begins with more than seven digits.
     Register,
     /// No month is open.
     NoMonth,
-    /// There is no year end.
+    /// No year waits to be closed.
     NoYearEnd,
-    /// The place has no record.
+    /// Nobody has this place.
     Place,
-    /// The month has 1,000 entries.
+    /// The month is full: it took its thousandth entry.
     Full,
-    /// The day lies outside the open month.
+    /// That day belongs to another month than the one that is open.
     Day,
-    /// A register value is over 9,999,999 kWh, a correction beyond 1,000,000 kWh either way, or a payment not 1 to 100,000,000 drams.
+    /// The figure is larger than its kind of entry takes, or a payment of nothing.
     Value,
-    /// A reading or a final value is below the register.
+    /// The meter would have run backwards.
     Below,
-    /// The tally would leave its range.
+    /// The month's kWh on this register would pass 1,000,000, up or down.
     Tally,
-    /// A payment would leave a debt below -1,000,000,000 drams.
+    /// The group would owe the member more than 1,000,000,000 drams.
     Debt,
-    /// The slice for lines is shorter than the group.
+    /// The slice ends before the line of the last member.
     Lines,
-    /// The draft is not current.
+    /// The draft does not agree with the book as it stands.
     Draft,
 }
 

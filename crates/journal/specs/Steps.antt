@@ -23,7 +23,7 @@ abbrev Spells : {X : Type 0} → Spelling X → X → Bor (List ℕ) → Type 0
 Spells s x part = s.fine x × (part.now ≡ s.text x)
 
 -- what the reader of the six columns after the kind answers: a value that each field spells, or the number of the first
--- field that has not its form
+-- one that spells none
 abbrev pub ColumnsRead : {A B C D E F : Type 0} → Row → Spelling A → Spelling B → Spelling C → Spelling D → Spelling E → Spelling F
     → Result (A × B × C × D × E × F) WrongField → Type 0
 ColumnsRead row member zone flow value second date r =

@@ -10,7 +10,7 @@ use fields::field::WrongField;
 pub enum ReadRefusal {
     /// The line has not its line feed or not seven fields.
     Fields,
-    /// A field has not its form.
+    /// A field is not spelled as its column asks in a line of this kind.
     Form {
         /// The number of the first such field, counted from 1.
         field: usize,

@@ -75,7 +75,7 @@ pub record ReadAgain : Type 0 where
   pub one_lower : (value : ℕ) → value < 9999999 → read 0 0 value value (standing (value + 1)) ≡ Err Below
   pub by_number : number_of Below ≡ 17
 
--- a tally of 1,000,000 stands, and one more is refused by 18
+-- 999,999 kWh and one more are the most that a tally takes; with the next one the entry is refused by 18
 pub record Tallied : Type 0 where
   pub stands : tally_with (pos 999999) (pos 1) ≡ Ok (pos 1000000)
   pub one_more : tally_with (pos 1000000) (pos 1) ≡ Err Tally

@@ -10,7 +10,7 @@ use output::fault::{Fault, Layer};
 /// Why a run stops.
 #[derive(Clone, Copy, PartialEq, Eq, Debug)]
 pub enum RunRefusal {
-    /// The journal is over 65,536 bytes, or its first line is another or has not its line feed.
+    /// The text is too long for a journal, or does not begin with the line of names.
     Journal,
     /// The line has not its form.
     Line(ReadRefusal),

@@ -1,7 +1,7 @@
 -- What makes a list of shares fair: the law of every sharing rule.
 use Rattle.std.specs.Prelude.{◌≡◌, ℕ, ◌+◌, ◌-◌, ◌≤◌, min, List, [], ◌∷◌, length, sum, slice_index}
 
--- there are as many shares as needs, no share exceeds its need, and together they are the smaller of the pool and all needs
+-- each need has a share, and none a larger one than it asks for; together they use up the pool, or meet all needs where these are less
 pub record Fair (pool : ℕ) (needs shares : List ℕ) : Type 0 where
   pub as_many : length shares ≡ length needs
   pub within : (place : ℕ) → slice_index shares place ≤ slice_index needs place

@@ -1,8 +1,8 @@
--- The three sharing rules, each as a function from a pool and a list of needs to a list of shares.
+-- What each of the three rules makes of a pool and a list of needs.
 use Rattle.std.specs.Prelude.{ℕ, ◌+◌, ◌-◌, ◌*◌, ◌/◌, min, List, [], ◌∷◌, sum}
 use Rattle.sharing.specs.Fair.{plus, less}
 
--- the places one after another, each with the smaller of its need and what is left
+-- the first takes its need, as far as there is so much, and those behind it share the rest in the same way
 abbrev pub line_order : ℕ → List ℕ → List ℕ
 line_order left [] = []
 line_order left (need ∷ needs) = min left need ∷ line_order (left - need) needs
@@ -31,7 +31,7 @@ reserved pool parts [] = []
 reserved pool [] (need ∷ needs) = 0 ∷ reserved pool [] needs
 reserved pool (part ∷ parts) (need ∷ needs) = ahead pool part need ∷ reserved pool parts needs
 
--- the rule below shares the remaining pool among the remaining needs, and both amounts are added
+-- what goes ahead at each place, and on top of it what the rule below makes of the rest of the pool and of the needs
 abbrev pub with_parts : (below : ℕ → List ℕ → List ℕ) (parts : List ℕ) → ℕ → List ℕ → List ℕ
 with_parts below parts pool needs =
     let first = reserved pool parts needs in

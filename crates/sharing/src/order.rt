@@ -5,7 +5,7 @@ ghost use Rattle.sharing.specs.Fairness.{line_order_fair};
 use crate::refusal::ShareRefusal;
 use crate::rule::{SharingRule, admit};
 
-/// Line order: the places one after another, each with the smaller of its need and what is left.
+/// Line order: who comes first takes what it needs, and who comes later what the others left over.
 #[derive(Clone, Copy, Debug)]
 pub struct LineOrder;
 

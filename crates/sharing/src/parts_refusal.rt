@@ -8,7 +8,7 @@ use std::fmt;
 /// The refusal of the call that sets the parts.
 #[derive(Clone, Copy, PartialEq, Eq, Debug)]
 pub enum PartsRefusal {
-    /// There are not 32 parts, or they add up to over 10,000.
+    /// The list is not one part for each place, or gives away more than the whole pool.
     Parts,
 }
 

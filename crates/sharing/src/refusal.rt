@@ -8,9 +8,9 @@ use std::fmt;
 /// The refusals of a sharing rule's call.
 #[derive(Clone, Copy, PartialEq, Eq, Debug)]
 pub enum ShareRefusal {
-    /// There are not 1 to 32 needs, or not as many places for shares.
+    /// Nobody asks, more than 32 ask, or the shares have too few or too many places.
     Count,
-    /// The pool is over 1,000,000,000 kWh or a need over 2,000,000 kWh.
+    /// More than 1,000,000,000 kWh are to be shared, or a place asks for more than 2,000,000.
     Size,
 }
 
