@@ -127,7 +127,7 @@ corrected_stands : (kwh : ℤ) (r after : Register) → corrected kwh r ≡ Ok a
 corrected_stands kwh r after is = grind (arith, nat_tests, common_steps)
 
 -- where an entry does a step on a record, the record is found, and the group has what the step makes of it
-altered_found : (place : ℕ) (step : Member → Result Member BookRefusal) (old new : Group) → altered place step old ≡ Ok new → (member : Member) × (changed : Member) × (slice_get old.members.items place ≡ Some member) × (step member ≡ Ok changed) × (entered place changed old ≡ new)
+pub altered_found : (place : ℕ) (step : Member → Result Member BookRefusal) (old new : Group) → altered place step old ≡ Ok new → (member : Member) × (changed : Member) × (slice_get old.members.items place ≡ Some member) × (step member ≡ Ok changed) × (entered place changed old ≡ new)
 altered_found place step old new is =
     let (member, admits, rest) = and_then_ok (admitted place old) (λ (m : Member). made (λ (a : Member). entered place a old) (step m)) new is in
     let (changed, stepped, same) = made_ok (λ (a : Member). entered place a old) (step member) new rest in

@@ -41,3 +41,9 @@ abbrev pub Leads : Share → (ℕ → Prices) → List Event → Group → Type 
 Leads share prices [] group = group ≡ blank
 Leads share prices (event ∷ history) group =
     (before : Group) × Leads share prices history before × Happens share prices before event group
+
+-- a history leads to one group alone
+abbrev pub LeadsToOneGroup : Type 0
+LeadsToOneGroup =
+    (share : Share) (prices : ℕ → Prices) (history : List Event) (one other : Group)
+    → Leads share prices history one → Leads share prices history other → one ≡ other

@@ -1,0 +1,67 @@
+-- When a draft is current: from its drawing on, while nothing is posted.
+use Rattle.std.specs.Prelude.{◌≡◌, ◌≢◌, ◌↔◌, ℕ, true, false, List, [], ◌∷◌, ◌++◌, Ok}
+use Rattle.ledger.specs.declared.bill.Bill.{Bill}
+use Rattle.ledger.specs.declared.entry.Entry.{Entry}
+use Rattle.group.specs.declared.group.Group.{Group}
+use Rattle.group.specs.declared.group.Phase.TheVariants.{Open}
+use Rattle.steps.specs.Drafts.{Stamp, drawn, is_current, issued}
+use Rattle.steps.specs.Entries.{after_entry}
+use Rattle.steps.specs.Months.{Prices, Share}
+use Rattle.balance.specs.Histories.{Event, Drawing, Happens, Leads}
+use Rattle.balance.specs.Postings.{posting, postings}
+
+-- a draft that is drawn now is current
+abbrev pub DrawnNowIsCurrent : Type 0
+DrawnNowIsCurrent =
+    (share : Share) (prices : ℕ → Prices) (places : ℕ)
+    (group : Group) (stamp : Stamp) (lines : List Bill)
+    → drawn share prices places group ≡ Ok (stamp, lines) → is_current group stamp ≡ true
+
+-- an accepted entry leaves none current that was so
+abbrev pub EntriesEndDrafts : Type 0
+EntriesEndDrafts =
+    (entry : Entry) (old new : Group) (stamp : Stamp)
+    → after_entry entry old ≡ Ok new → is_current old stamp ≡ true → is_current new stamp ≡ false
+
+-- nor does an accepted issue, of whatever draft
+abbrev pub IssuesEndDrafts : Type 0
+IssuesEndDrafts =
+    (share : Share) (prices : ℕ → Prices) (issue : Stamp) (places : ℕ)
+    (old new : Group) (lines : List Bill) (stamp : Stamp)
+    → issued share prices issue places old ≡ Ok (lines, new)
+    → is_current old stamp ≡ true → is_current new stamp ≡ false
+
+-- in another phase than an open month none is current
+abbrev pub NoneOutOfAMonth : Type 0
+NoneOutOfAMonth =
+    (group : Group) (stamp : Stamp)
+    → ((month : ℕ) → group.phase ≢ Open month) → is_current group stamp ≡ false
+
+-- none is that has the number of another group
+abbrev pub NoneOfAnotherGroup : Type 0
+NoneOfAnotherGroup =
+    (group : Group) (stamp : Stamp) → stamp.number ≢ group.number → is_current group stamp ≡ false
+
+-- a call that posts nothing, as a refused one, leaves a draft as current as it was
+abbrev pub QuietCallsLeaveDrafts : Type 0
+QuietCallsLeaveDrafts =
+    (share : Share) (prices : ℕ → Prices) (old : Group) (event : Event) (new : Group) (stamp : Stamp)
+    → Happens share prices old event new → posting event ≡ []
+    → is_current new stamp ≡ is_current old stamp
+
+-- when a draft is current, by the call that is made
+pub record DraftsByCall : Type 0 where
+  pub drawn_now : DrawnNowIsCurrent
+  pub by_entry : EntriesEndDrafts
+  pub by_issue : IssuesEndDrafts
+  pub out_of_a_month : NoneOutOfAMonth
+  pub of_another_group : NoneOfAnotherGroup
+  pub by_quiet_call : QuietCallsLeaveDrafts
+
+-- and over whole histories: a draft is current just where the history posts nothing after its drawing
+abbrev pub DraftsByHistory : Type 0
+DraftsByHistory =
+    (share : Share) (prices : ℕ → Prices) (earlier later : List Event)
+    (places : ℕ) (stamp : Stamp) (lines : List Bill) (group : Group)
+    → Leads share prices (later ++ Drawing places (Ok (stamp, lines)) ∷ earlier) group
+    → (is_current group stamp ≡ true) ↔ (postings later ≡ [])
