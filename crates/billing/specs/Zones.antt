@@ -1,6 +1,7 @@
 -- A zone's month: what its members need and have over, what is covered and billed, and what is carried on.
 use Rattle.std.specs.Prelude.{◌≡◌, ℕ, suc, ◌+◌, ◌-◌, Bool, ◌&&◌, if◌then◌else◌, ◌⊎◌, List, map, length, ℤ, pos, negsuc, Ok, Err, sum, Result, ◌==◌, nat_le, nat_lt}
 use Rattle.sharing.specs.Fair.{less, plus}
+use Rattle.sharing.specs.Limits.{most_places}
 use Rattle.sharing.specs.Refusals.{answer}
 use Rattle.sharing.specs.declared.refusal.ShareRefusal.{ShareRefusal}
 use Rattle.sharing.specs.declared.refusal.ShareRefusal.TheVariants.{Count}
@@ -26,7 +27,7 @@ pool_of carried nets = carried + sum (map surplus nets)
 -- there are 1 to 32 members, with a place to cover and a place to bill for each
 abbrev pub counted : (members to_cover to_bill : ℕ) → Bool
 counted members to_cover to_bill =
-    nat_lt 0 members && (nat_le members 32 && (to_cover == members && to_bill == members))
+    nat_lt 0 members && (nat_le members most_places && (to_cover == members && to_bill == members))
 
 -- whether a zone is settled: 7 where the members and the places do not match, else 8 where the pool or a need is too large
 abbrev pub zone_answer : (carried : ℕ) (nets : List ℤ) (to_cover to_bill : ℕ)

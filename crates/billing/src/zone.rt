@@ -1,6 +1,7 @@
 //! A zone's month: its pool is shared among the needs, and what is left is carried on.
 ghost use Rattle.std.specs.Prelude.{◌≡◌, ◌≤◌, length, IfOk, if◌then◌else◌, Ok, Err, nat_lt};
 ghost use Rattle.sharing.specs.Fair.{less};
+ghost use Rattle.sharing.specs.Limits.{most_places};
 ghost use Rattle.sharing.specs.declared.refusal.ShareRefusal.TheVariants.{Size};
 ghost use Rattle.billing.specs.Zones.{Balances, Settled, counted, needs_of, pool_of};
 
@@ -18,7 +19,7 @@ fn is_counted(members: usize, to_cover: usize, to_bill: usize) -> bool
 
 // The needs of the nets.
 fn needs_in(nets: &[i64]) -> ArrayVec<u64, PLACES>
-    requires { length nets.now ≤ 32 }
+    requires { length nets.now ≤ most_places }
     ensures { result.items ≡ needs_of nets.now }
 {
     let mut needs = ArrayVec::new();

@@ -1,5 +1,6 @@
 -- What a comparison holds: the shares by each rule, and what is left of the pool under each.
 use Rattle.std.specs.Prelude.{◌≡◌, ℕ, ◌-◌, List, ◌++◌, length, replicate, Ok, Err, vec_items, sum, Result}
+use Rattle.sharing.specs.Limits.{most_places}
 use Rattle.sharing.specs.Refusals.{answer, parts_answer}
 use Rattle.sharing.specs.Rules.{line_order, proportion, with_parts}
 use Rattle.comparison.specs.declared.columns.Column.{Column}
@@ -9,7 +10,7 @@ use Rattle.comparison.specs.declared.problem.Problem.TheVariants.{At, Memory, Of
 
 -- the parts of 32 places, of which those that were not given are 0
 abbrev pub padded : List ℕ → List ℕ
-padded parts = parts ++ replicate (32 - length parts) 0
+padded parts = parts ++ replicate (most_places - length parts) 0
 
 -- these shares, and what they leave of the pool
 pub record Holds (pool : ℕ) (shares : List ℕ) (column : Column) : Type 0 where

@@ -1,6 +1,8 @@
 -- The text of a question, and where and why a text is none.
-use Rattle.std.specs.Prelude.{All, ◌≡◌, ℕ, ◌<◌, ◌≤◌, List, [], ◌∷◌, ◌++◌, length, Some, None, Ok, Err, vec_items, Option, Result, Vec}
+use Rattle.std.specs.Prelude.{All, ◌≡◌, ℕ, ◌+◌, ◌<◌, ◌≤◌, List, [], ◌∷◌, ◌++◌, length, Some, None, Ok, Err, vec_items, Option, Result, Vec}
+use Rattle.fields.specs.Bytes.{line_feed}
 use Rattle.fields.specs.Cuts.{Lacks}
+use Rattle.sharing.specs.Limits.{most_places}
 use Rattle.comparison.specs.Rows.{Short, RowOf, Stops, row}
 use Rattle.comparison.specs.declared.problem.Problem.{Problem}
 use Rattle.comparison.specs.declared.problem.Problem.TheVariants.{At, Memory, OfParts, OfRule}
@@ -12,11 +14,11 @@ use Rattle.comparison.specs.declared.question.Wrong.TheVariants.{LineFeed, Missi
 -- nothing where there are no parts, else a line of them
 abbrev pub parts_text : List ℕ → List ℕ
 parts_text [] = []
-parts_text (part ∷ parts) = row (part ∷ parts) ++ (10 ∷ [])
+parts_text (part ∷ parts) = row (part ∷ parts) ++ (line_feed ∷ [])
 
 -- a line with the pool and its needs, and then the parts
 abbrev question_text : ℕ → List ℕ → List ℕ → List ℕ
-question_text pool needs parts = row (pool ∷ needs) ++ (10 ∷ parts_text parts)
+question_text pool needs parts = row (pool ∷ needs) ++ (line_feed ∷ parts_text parts)
 
 -- the text asks how to share this pool among these needs, with these parts: 1 to 32 needs and up to 32 parts,
 -- each number of up to ten digits
@@ -25,12 +27,12 @@ pub record Asks (bs : List ℕ) (pool : ℕ) (needs parts : List ℕ) : Type 0 w
   pub short : All Short (pool ∷ needs)
   pub short_parts : All Short parts
   pub some : 1 ≤ length needs
-  pub few : length needs ≤ 32
-  pub few_parts : length parts ≤ 32
+  pub few : length needs ≤ most_places
+  pub few_parts : length parts ≤ most_places
 
 -- the first line of the text, without its line feed, and what follows it
 abbrev pub Begins : List ℕ → List ℕ → List ℕ → Type 0
-Begins bs first rest = (bs ≡ first ++ (10 ∷ rest)) × Lacks 10 first
+Begins bs first rest = (bs ≡ first ++ (line_feed ∷ rest)) × Lacks line_feed first
 
 -- a fault
 abbrev pub at : ℕ → Option ℕ → Wrong → Fault
@@ -38,16 +40,16 @@ at line field wrong = record { line = line; field = field; wrong = wrong }
 
 -- where and why what follows the first line is no line of parts
 pub data NoParts (bs : List ℕ) : Fault → Type 0 where
-  second_endless : 0 < length bs → Lacks 10 bs → NoParts bs (at 2 None LineFeed)
-  second_unread : (second rest : List ℕ) (fault : Fault) → Begins bs second rest → Stops 2 32 second fault → NoParts bs fault
-  third_line : (second rest parts : List ℕ) → Begins bs second rest → RowOf 32 second parts → 0 < length rest → NoParts bs (at 3 None Line)
+  second_endless : 0 < length bs → Lacks line_feed bs → NoParts bs (at 2 None LineFeed)
+  second_unread : (second rest : List ℕ) (fault : Fault) → Begins bs second rest → Stops 2 most_places second fault → NoParts bs fault
+  third_line : (second rest parts : List ℕ) → Begins bs second rest → RowOf most_places second parts → 0 < length rest → NoParts bs (at 3 None Line)
 
 -- where and why the text is no question
 pub data NoQuestion (bs : List ℕ) : Fault → Type 0 where
-  first_endless : Lacks 10 bs → NoQuestion bs (at 1 None LineFeed)
-  first_unread : (first rest : List ℕ) (fault : Fault) → Begins bs first rest → Stops 1 33 first fault → NoQuestion bs fault
-  no_need : (first rest : List ℕ) (pool : ℕ) → Begins bs first rest → RowOf 33 first (pool ∷ []) → NoQuestion bs (at 1 (Some 2) Missing)
-  no_parts : (first rest : List ℕ) (pool need : ℕ) (needs : List ℕ) (fault : Fault) → Begins bs first rest → RowOf 33 first (pool ∷ need ∷ needs) → NoParts rest fault → NoQuestion bs fault
+  first_endless : Lacks line_feed bs → NoQuestion bs (at 1 None LineFeed)
+  first_unread : (first rest : List ℕ) (fault : Fault) → Begins bs first rest → Stops 1 (most_places + 1) first fault → NoQuestion bs fault
+  no_need : (first rest : List ℕ) (pool : ℕ) → Begins bs first rest → RowOf (most_places + 1) first (pool ∷ []) → NoQuestion bs (at 1 (Some 2) Missing)
+  no_parts : (first rest : List ℕ) (pool need : ℕ) (needs : List ℕ) (fault : Fault) → Begins bs first rest → RowOf (most_places + 1) first (pool ∷ need ∷ needs) → NoParts rest fault → NoQuestion bs fault
 
 -- no question has this text
 abbrev pub AsksNothing : List ℕ → Type 0
@@ -80,7 +82,7 @@ QuestionRead bs (Err why) = NoQuestionRead bs why
 pub record PartsOf (bs parts : List ℕ) : Type 0 where
   pub text : bs ≡ parts_text parts
   pub short : All Short parts
-  pub few : length parts ≤ 32
+  pub few : length parts ≤ most_places
 
 -- why no parts were read
 abbrev pub NoPartsRead : List ℕ → Problem → Type 0

@@ -1,6 +1,7 @@
 -- A line of numbers parted by commas: its text, and what is wrong with a text that is none.
 use Rattle.std.specs.Prelude.{All, ◌≡◌, ℕ, ◌+◌, ◌<◌, ◌≤◌, ◌⊎◌, List, [], ◌∷◌, ◌++◌, length, Some, Ok, Err, vec_items, decimal, Result, Vec, ◌≢◌}
 use Rattle.std.specs.List.{flat_map}
+use Rattle.fields.specs.Bytes.{comma}
 use Rattle.fields.specs.Cuts.{Lacks}
 use Rattle.comparison.specs.declared.problem.Problem.{Problem}
 use Rattle.comparison.specs.declared.problem.Problem.TheVariants.{At, Memory, OfParts, OfRule}
@@ -16,15 +17,15 @@ Short n = n ≤ 9999999999
 abbrev pub row : List ℕ → List ℕ
 row [] = []
 row (n ∷ []) = decimal n
-row (n ∷ m ∷ ns) = decimal n ++ (44 ∷ row (m ∷ ns))
+row (n ∷ m ∷ ns) = decimal n ++ (comma ∷ row (m ∷ ns))
 
 -- the numbers with a comma after each
 abbrev pub front_of : List ℕ → List ℕ
-front_of ns = flat_map (λ n. decimal n ++ (44 ∷ [])) ns
+front_of ns = flat_map (λ n. decimal n ++ (comma ∷ [])) ns
 
 -- the text begins with a field that has no comma, and ends with it or goes on at a comma
 abbrev pub Starts : List ℕ → List ℕ → Type 0
-Starts field bs = Lacks 44 field × ((bs ≡ field) ⊎ ((after : List ℕ) × (bs ≡ field ++ (44 ∷ after))))
+Starts field bs = Lacks comma field × ((bs ≡ field) ⊎ ((after : List ℕ) × (bs ≡ field ++ (comma ∷ after))))
 
 -- the field spells no number of up to ten digits
 abbrev pub NoNumber : List ℕ → Type 0

@@ -12,7 +12,7 @@ use std::alloc::{AllocError, Global};
 
 // A list and no pairs with the needs: a rule writes its shares into a slice of numbers.
 /// The shares by a rule, and what it leaves of the pool.
-#[derive(Drop)]
+#[derive(Debug, Drop)]
 pub struct Column {
     /// The share of each place in kWh.
     pub shares: Vec<u64>,
@@ -60,7 +60,7 @@ fn column_with_parts<R: SharingRule + Drop>(
 }
 
 /// The four columns of a comparison.
-#[derive(Drop)]
+#[derive(Debug, Drop)]
 pub struct Comparison {
     /// By line order.
     pub line_order: Column,

@@ -7,6 +7,7 @@ use crate::question::Fault;
 use sharing::parts_refusal::PartsRefusal;
 use sharing::refusal::ShareRefusal;
 use std::alloc::{AllocError, AllocFailed};
+use std::error::Error;
 use std::fmt;
 
 /// Why there is no table.
@@ -35,6 +36,8 @@ impl fmt::Display for Problem {
         }
     }
 }
+
+impl Error for Problem {}
 
 // Each `From` by hand: a derive states nothing of the case that `?` makes, and `from_gives` says it.
 impl From<ShareRefusal> for Problem {

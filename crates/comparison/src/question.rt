@@ -1,5 +1,6 @@
 //! The text of a question: a pool with its needs, and the parts if there are any.
-ghost use Rattle.std.specs.Prelude.{◌≡◌, ◌≤◌, length, Some};
+ghost use Rattle.std.specs.Prelude.{◌≡◌, ◌+◌, ◌≤◌, length, Some};
+ghost use Rattle.sharing.specs.Limits.{most_places};
 ghost use Rattle.comparison.specs.Questions.{PartsRead, QuestionRead, at};
 ghost use Rattle.comparison.specs.Rows.{FieldRead, RowRead};
 ghost use Rattle.comparison.specs.Words.{fault_told, wrong_words};
@@ -10,6 +11,7 @@ use fields::marks::{COMMA, line};
 use fields::numbers::number;
 use sharing::rule::PLACES;
 use std::alloc::Global;
+use std::error::Error;
 use std::fmt;
 
 /// The largest number that a question may have: ten digits.
@@ -71,8 +73,10 @@ impl fmt::Display for Fault {
     }
 }
 
+impl Error for Fault {}
+
 /// What is asked, with the needs and the parts lent: a pool to be shared, and the parts that go ahead of the needs.
-#[derive(Clone, Copy)]
+#[derive(Clone, Copy, Debug)]
 pub struct Asked<'a> {
     /// The pool in kWh.
     pub pool: u64,
@@ -83,7 +87,7 @@ pub struct Asked<'a> {
 }
 
 /// A pool to be shared, with the parts that some places are to get ahead of the others.
-#[derive(Drop)]
+#[derive(Debug, Drop)]
 pub struct Question {
     /// The pool in kWh.
     pub pool: u64,
@@ -117,7 +121,7 @@ fn wrong_at(line: usize, field: Option<usize>, wrong: Wrong) -> Problem
 
 // Adds the number of one more field of a line that may have `most` fields.
 fn read_field(found: &mut Vec<u64>, line: usize, field: &[u8], most: usize) -> Result<(), Problem>
-    requires few { most ≤ 33 }
+    requires few { most ≤ most_places + 1 }
     requires room { length found.old.items ≤ most }
     ensures { FieldRead line most found.old.items field.now result found.new.items }
 {
@@ -134,7 +138,7 @@ fn read_field(found: &mut Vec<u64>, line: usize, field: &[u8], most: usize) -> R
 
 // The numbers of a line that may have `most` fields.
 fn read_row(alloc: Global, line: usize, text: &[u8], most: usize) -> Result<Vec<u64>, Problem>
-    requires few { most ≤ 33 }
+    requires few { most ≤ most_places + 1 }
     ensures { RowRead line most text.now result }
 {
     let mut found = Vec::new(alloc);

@@ -8,7 +8,7 @@ use crate::tariff::Tariff;
 use calendar::days::Month;
 
 /// A tariff with the same prices in every month.
-#[derive(Clone, Copy)]
+#[derive(Clone, Copy, Debug)]
 pub struct FixedTariff {
     /// The prices.
     pub prices: Prices,

@@ -5,7 +5,7 @@ use crate::prices::Prices;
 use calendar::days::Month;
 
 /// Prices and the month from which they hold.
-#[derive(Clone, Copy)]
+#[derive(Clone, Copy, Debug)]
 pub struct Row {
     /// The first month of the prices.
     pub first_month: Month,

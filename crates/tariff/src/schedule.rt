@@ -10,7 +10,7 @@ use crate::tariff::Tariff;
 use calendar::days::Month;
 
 /// A tariff by rows: in each month the last row that has begun holds, and before any the price is 0.
-#[derive(Clone, Copy)]
+#[derive(Clone, Copy, Debug)]
 pub struct Schedule<'a> {
     /// The rows, in any order of their months.
     pub rows: &'a [Row],
