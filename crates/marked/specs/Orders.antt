@@ -1,6 +1,6 @@
 -- The order in which a call tests its input: an input in which all refusals hold that can hold together is answered by the
 -- first; with that mended it is answered by the next, and so on down to one that is accepted.
-use Rattle.std.specs.Prelude.{◌≡◌, ℕ, pos, negsuc, IsOk, List, [], ◌∷◌, ◌++◌, replicate, Ok, Err, Result, codes}
+use Rattle.std.specs.Prelude.{◌≡◌, ℕ, ℤ, pos, negsuc, IsOk, List, [], ◌∷◌, ◌++◌, replicate, Ok, Err, Result, codes}
 use Rattle.billing.specs.Zones.{zone_answer}
 use Rattle.group.specs.Groups.{blank}
 use Rattle.group.specs.Members.{opened_flows, opened_member, opening_record}
@@ -65,34 +65,34 @@ pub record OpeningInOrder : Type 0 where
 
 -- ---- entries
 
--- a register that stands at 500 kWh, with the largest tally
-abbrev worn_member : Member
-worn_member = record (opened_member household) {
+-- the record of the household with this tally of what it used by day, at a register that stands so, and with this debt
+abbrev used_to : (standing : ℕ) → (tally debt : ℤ) → Member
+used_to standing tally debt = record (opened_member household) {
   registers = record {
-    day = record { consumed = record { standing = 500; tally = pos 1000000 }; delivered = opened_register 0 };
+    day = record { consumed = record { standing = standing; tally = tally }; delivered = opened_register 0 };
     night = opened_flows (record { consumed = 0; delivered = 0 });
   };
-  account = record { debt = negsuc 949999999; fraction = 0 };
+  account = record { debt = debt; fraction = 0 };
 }
 
--- the group of two in January 2024 with so many entries, where that is the register of place 1 of what it uses by day, and
--- where place 1 is owed 950,000,000 drams
-abbrev with_entries : ℕ → Group
-with_entries entries = record two {
-  members = record { items = opened_member producer ∷ worn_member ∷ [] };
+-- the group of two in January 2024 with so many entries and such a household at place 1
+abbrev january : (entries standing : ℕ) → (tally debt : ℤ) → Group
+january entries standing tally debt = record two {
+  members = record { items = opened_member producer ∷ used_to standing tally debt ∷ [] };
   entries = entries;
 }
 
--- a month that is full, and one that takes one entry more
+-- a full month: the register stands at 500 kWh with the largest tally, and the household is owed 950,000,000 drams
 abbrev full_month : Group
-full_month = with_entries 1000
+full_month = january 1000 500 (pos 1000000) (negsuc 949999999)
 
+-- the same with room for one entry
 abbrev nearly_full : Group
-nearly_full = with_entries 999
+nearly_full = january 999 500 (pos 1000000) (negsuc 949999999)
 
--- the same group between December 2023 and January 2024
+-- the group of two between December 2023 and January 2024
 abbrev pub year_end : Group
-year_end = record (with_entries 0) { phase = YearEnd 287 }
+year_end = record two { phase = YearEnd 287 }
 
 -- the register of a place of what it uses by day
 abbrev used : (place : ℕ) → MemberRegister
@@ -120,10 +120,11 @@ pub record ChangeInOrder : Type 0 where
   pub full : entering full_month (Change (used 1) 8797 499 10000000) ≡ Err book.Full
   pub day : entering nearly_full (Change (used 1) 8797 499 10000000) ≡ Err book.Day
   pub start : entering nearly_full (Change (used 1) 8796 499 10000000) ≡ Err book.Value
-  pub value : entering nearly_full (Change (used 1) 8796 10000000 500) ≡ Err book.Value
-  pub below : entering nearly_full (Change (used 1) 8796 499 500) ≡ Err book.Below
-  pub tally : entering nearly_full (Change (used 1) 8796 501 500) ≡ Err book.Tally
-  pub accepted : entering nearly_full (Change (used 1) 8796 500 500) ≡ Ok full_month
+  pub value : entering nearly_full (Change (used 1) 8796 10000000 7) ≡ Err book.Value
+  pub below : entering nearly_full (Change (used 1) 8796 499 7) ≡ Err book.Below
+  pub tally : entering nearly_full (Change (used 1) 8796 501 7) ≡ Err book.Tally
+  pub accepted : entering nearly_full (Change (used 1) 8796 500 7)
+      ≡ Ok (january 1000 7 (pos 1000000) (negsuc 949999999))
 
 -- a correction by more than 1,000,000 kWh
 pub record CorrectionInOrder : Type 0 where
@@ -132,7 +133,8 @@ pub record CorrectionInOrder : Type 0 where
   pub full : entering full_month (Correction (used 1) (pos 1000001)) ≡ Err book.Full
   pub value : entering nearly_full (Correction (used 1) (pos 1000001)) ≡ Err book.Value
   pub tally : entering nearly_full (Correction (used 1) (pos 1)) ≡ Err book.Tally
-  pub accepted : entering nearly_full (Correction (used 1) (pos 0)) ≡ Ok full_month
+  pub accepted : entering nearly_full (Correction (used 1) (negsuc 999999))
+      ≡ Ok (january 1000 500 (pos 0) (negsuc 949999999))
 
 -- a payment of more than 100,000,000 drams
 pub record PaymentInOrder : Type 0 where
@@ -141,7 +143,8 @@ pub record PaymentInOrder : Type 0 where
   pub full : entering full_month (Payment 1 100000001) ≡ Err book.Full
   pub value : entering nearly_full (Payment 1 100000001) ≡ Err book.Value
   pub debt : entering nearly_full (Payment 1 100000000) ≡ Err book.Debt
-  pub accepted : IsOk (entering nearly_full (Payment 1 50000000))
+  pub accepted : entering nearly_full (Payment 1 50000000)
+      ≡ Ok (january 1000 500 (pos 1000000) (negsuc 999999999))
 
 -- ---- drawing, issue and the year's end
 
