@@ -10,11 +10,11 @@ use Rattle.group.specs.declared.group.Group.{Group}
 use Rattle.group.specs.declared.group.Phase.{Phase}
 use Rattle.group.specs.declared.group.Phase.TheVariants.{Blank, Open, YearEnd as AtYearEnd, Over}
 use Rattle.group.specs.declared.refusal.BookRefusal.TheVariants as refused
-use Rattle.steps.specs.Books.{unopened}
-use Rattle.steps.specs.Drafts.{Stamp, drawable, drawn, is_current, issued, next_phase, stamped}
-use Rattle.steps.specs.Entries.{after_entry, open_month, place_of, recorded}
-use Rattle.steps.specs.Months.{Prices, Share, lines_of}
-use Rattle.steps.specs.Years.{after_year, next_year, open_year, year_figures}
+use Rattle.group.specs.Books.{unopened}
+use Rattle.group.specs.Drafts.{Stamp, drawable, drawn, is_current, issued, next_phase, stamped}
+use Rattle.group.specs.Entries.{after_entry, open_month, place_of, recorded}
+use Rattle.group.specs.Months.{Prices, Share, lines_of}
+use Rattle.group.specs.Years.{after_year, next_year, open_year, year_figures}
 use Rattle.balance.proofs.Entries.{altered_found}
 use Rattle.balance.proofs.Theorem.{ended_in, issued_is, opened_in}
 use Rattle.balance.specs.CurrentDrafts.{DraftsByCall, DraftsByHistory}

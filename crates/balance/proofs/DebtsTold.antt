@@ -14,11 +14,11 @@ use Rattle.group.specs.Results.{made}
 use Rattle.group.specs.declared.group.Group.{Group}
 use Rattle.group.specs.declared.member.Member.{Member}
 use Rattle.group.specs.declared.refusal.BookRefusal.TheVariants as refused
-use Rattle.steps.proofs.Lists.{length-by_place}
-use Rattle.steps.proofs.YearsSound.{holder_inside}
-use Rattle.steps.specs.Drafts.{after_month}
-use Rattle.steps.specs.Months.{Prices, Share, bill_of, billed_member, lines_of, supplies_at}
-use Rattle.steps.specs.Years.{after_year, credited, holder_of, open_year, year_figures}
+use Rattle.group.proofs.Lists.{length-by_place}
+use Rattle.group.proofs.YearsSound.{holder_inside}
+use Rattle.group.specs.Drafts.{after_month}
+use Rattle.group.specs.Months.{Prices, Share, bill_of, billed_member, lines_of, supplies_at}
+use Rattle.group.specs.Years.{after_year, credited, holder_of, open_year, year_figures}
 use Rattle.balance.proofs.Found.{by_place_at, found_by_place}
 use Rattle.balance.proofs.Theorem.{ended_in, issued_is}
 use Rattle.balance.specs.Debts.{IssuesTellDebts, TellsDebt, YearEndsTellDebts, debt_at}

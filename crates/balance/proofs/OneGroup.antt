@@ -3,7 +3,7 @@ use Rattle.std.proofs.Common.{◌≡◌, ℕ, [], ◌∷◌, Ok, Err, Result, sy
 use Rattle.group.specs.Results.{Answers, Follows}
 use Rattle.group.specs.declared.group.Group.{Group}
 use Rattle.group.specs.declared.refusal.BookRefusal.{BookRefusal}
-use Rattle.steps.specs.Months.{Prices, Share}
+use Rattle.group.specs.Months.{Prices, Share}
 use Rattle.balance.specs.Histories.{Event, Opening, Entering, Drawing, Checking, Issuing, Withdrawing, Closing, Happens, LeadsToOneGroup}
 
 one_followed : (step : Result Group BookRefusal) (old one other : Group) (answer : Result (Unit {0}) BookRefusal) → Follows step old answer one → Follows step old answer other → one ≡ other

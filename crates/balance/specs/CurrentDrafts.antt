@@ -4,9 +4,9 @@ use Rattle.ledger.specs.declared.bill.Bill.{Bill}
 use Rattle.ledger.specs.declared.entry.Entry.{Entry}
 use Rattle.group.specs.declared.group.Group.{Group}
 use Rattle.group.specs.declared.group.Phase.TheVariants.{Open}
-use Rattle.steps.specs.Drafts.{Stamp, drawn, is_current, issued}
-use Rattle.steps.specs.Entries.{after_entry}
-use Rattle.steps.specs.Months.{Prices, Share}
+use Rattle.group.specs.Drafts.{Stamp, drawn, is_current, issued}
+use Rattle.group.specs.Entries.{after_entry}
+use Rattle.group.specs.Months.{Prices, Share}
 use Rattle.balance.specs.Histories.{Event, Drawing, Happens, Leads}
 use Rattle.balance.specs.Postings.{posting, postings}
 

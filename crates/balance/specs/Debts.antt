@@ -6,10 +6,10 @@ use Rattle.group.specs.Groups.{member_at}
 use Rattle.group.specs.Results.{made}
 use Rattle.group.specs.declared.group.Group.{Group}
 use Rattle.group.specs.declared.refusal.BookRefusal.{BookRefusal}
-use Rattle.steps.specs.Drafts.{Stamp, issued}
-use Rattle.steps.specs.Months.{Prices, Share}
-use Rattle.steps.specs.Sound.{Sound}
-use Rattle.steps.specs.Years.{closed}
+use Rattle.group.specs.Drafts.{Stamp, issued}
+use Rattle.group.specs.Months.{Prices, Share}
+use Rattle.group.specs.Sound.{Sound}
+use Rattle.group.specs.Years.{closed}
 
 -- the debt of the member at a place
 abbrev pub debt_at : (place : ℕ) → Group → Result ℤ BookRefusal

@@ -1,2 +1,7 @@
 mod LeapDays
+mod Faults
+mod Months
+mod Numbering
+mod Ordering
 mod Readings
+mod Running

@@ -1,5 +1,5 @@
 -- A reading that equals its register, and one that is one lower.
-use Rattle.std.proofs.Common.{◌≡◌, ℕ, ◌+◌, ◌<◌, ◌≤◌, Some, Ok, Err, refl, arith}
+use Rattle.std.proofs.Common.{◌≡◌, ℕ, ◌+◌, ◌<◌, ◌≤◌, pos, Some, Ok, Err, refl, arith}
 use Rattle.std.proofs.lemmas.Bool.Decides.{nat_tests}
 use Rattle.group.specs.Registers.{opened_register, quantity, read}
 use Rattle.group.specs.declared.refusal.BookRefusal.TheVariants.{Below}
@@ -12,9 +12,13 @@ nothing_more value = grind (arith, nat_tests)
 as_before : (value : ℕ) → value ≤ 9999999 → read 0 0 value value (opened_register value) ≡ Ok (opened_register value)
 as_before value small = let none = nothing_more value in grind (arith, nat_tests, none)
 
+higher : (value kwh : ℕ) → kwh ≤ 1000000 → value + kwh ≤ 9999999 → read 0 0 (value + kwh) (value + kwh) (opened_register value) ≡ Ok (record { standing = value + kwh; tally = pos kwh })
+unfolding quantity
+higher value kwh few small = grind (arith, nat_tests)
+
 one_lower : (value : ℕ) → value < 9999999 → read 0 0 value value (opened_register (value + 1)) ≡ Err Below
 unfolding quantity
 one_lower value small = grind (arith, nat_tests)
 
 pub read_again : ReadAgain
-read_again = record { nothing_more = nothing_more; as_before = as_before; one_lower = one_lower; by_number = refl }
+read_again = record { nothing_more = nothing_more; as_before = as_before; higher = higher; one_lower = one_lower; by_number = refl }

@@ -68,10 +68,13 @@ pub record ReadOrRefused : Type 0 where
 abbrev standing : ℕ → Register
 standing value = opened_register value
 
--- a reading that equals its register has quantity 0 and changes nothing; one that is one lower is refused by 17
+-- a reading that equals its register has quantity 0 and changes nothing; one that is higher by up to 1,000,000 kWh tallies just
+-- that; one that is one lower is refused by 17
 pub record ReadAgain : Type 0 where
   pub nothing_more : (value : ℕ) → quantity value value ≡ Some 0
   pub as_before : (value : ℕ) → value ≤ 9999999 → read 0 0 value value (standing value) ≡ Ok (standing value)
+  pub higher : (value kwh : ℕ) → kwh ≤ 1000000 → value + kwh ≤ 9999999
+      → read 0 0 (value + kwh) (value + kwh) (standing value) ≡ Ok (record { standing = value + kwh; tally = pos kwh })
   pub one_lower : (value : ℕ) → value < 9999999 → read 0 0 value value (standing (value + 1)) ≡ Err Below
   pub by_number : number_of Below ≡ 17
 

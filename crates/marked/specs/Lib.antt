@@ -1,1 +1,4 @@
 pub mod Cases
+pub mod Numbers
+pub mod Orders
+pub mod Runs

@@ -1,0 +1,64 @@
+-- Worked cases of whole runs over the group of two: from the literal bytes of a journal to the literal bytes of its output.
+use Rattle.std.specs.Prelude.{◌≡◌, ℕ, List, [], ◌∷◌, ◌++◌, None, Option, Some, codes}
+use Rattle.std.specs.List.{concat}
+use Rattle.group.specs.declared.group.Group.{Group}
+use Rattle.output.specs.Faults.{fault_line}
+use Rattle.settlement.specs.Faults.{fault_of}
+use Rattle.settlement.specs.Runs.{Ran, RunsOver}
+use Rattle.settlement.specs.declared.fault.RunFault.{RunFault}
+use Rattle.sharing.specs.Rules.{proportion}
+use Rattle.two.specs.Two.{prices, two}
+
+-- the line of the fault that a run stops at, or nothing
+abbrev pub told : Option RunFault → List ℕ
+told None = []
+told (Some fault) = fault_line (fault_of fault)
+
+-- a run by proportion and at the prices of the group of two
+abbrev pub TwoRuns : (room : ℕ) → Group → (journal : List ℕ) → Ran → Type 0
+TwoRuns room group journal ran = RunsOver proportion (λ month. prices) journal room group ran
+
+-- what a run comes to has this text, and this line of a fault or none
+abbrev pub Tells : (text fault : List ℕ) → Ran → Type 0
+Tells text fault ran = (ran.text ≡ text) × (told ran.fault ≡ fault)
+
+-- the run of a journal comes to this text and this line of a fault, and to nothing else
+pub record RunsTo (room : ℕ) (group : Group) (journal text fault : List ℕ) : Type 0 where
+  pub to_this : (ran : Ran) × TwoRuns room group journal ran × Tells text fault ran
+  pub to_nothing_else : (ran : Ran) → TwoRuns room group journal ran → Tells text fault ran
+
+-- the journal of January 2024
+abbrev pub month_journal : List ℕ
+month_journal = concat
+    (codes "kind,member,zone,flow,value,second,date\n"
+    ∷ codes "READ,0,DAY,GIVE,900,-,2024-01-31\n"
+    ∷ codes "READ,0,DAY,USE,200,-,2024-01-31\n"
+    ∷ codes "READ,1,DAY,USE,1000,-,2024-01-31\n"
+    ∷ codes "READ,1,NIGHT,USE,33,-,2024-01-31\n"
+    ∷ codes "ISSUE,-,-,-,-,-,-\n" ∷ [])
+
+-- its bills: of the household's 1,000 kWh by day the 700 that the holder has over are covered and 300 billed, and by night 33;
+-- 300 × 45.00 + 700 × 10.00 + 33 × 35.07 drams are 21,657.31
+abbrev pub month_bills : List ℕ
+month_bills = concat
+    (codes "line,month,place,dayb,nightb,dayc,nightc,drams,debt\n"
+    ∷ codes "BILL,2024-01,0,0,0,0,0,0,0\n"
+    ∷ codes "BILL,2024-01,1,300,33,700,0,21657,21657\n" ∷ [])
+
+-- a month, whole
+abbrev pub MonthSettled : Type 0
+MonthSettled = RunsTo 65536 two month_journal month_bills []
+
+-- a journal of the line of names and this
+abbrev pub journal_of : List ℕ → List ℕ
+journal_of body = codes "kind,member,zone,flow,value,second,date\n" ++ body
+
+-- its run stops at the line of this fault, with nothing written but the line of names of the output
+abbrev pub StopsWith : (room : ℕ) → Group → (body fault : List ℕ) → Type 0
+StopsWith room group body fault =
+    RunsTo room group (journal_of body) (codes "line,month,place,dayb,nightb,dayc,nightc,drams,debt\n") fault
+
+-- a reading of a place without a record is refused by 13 of the book, and one on a 29 February of 2023 by 26 at field 7
+pub record FaultTold : Type 0 where
+  pub of_the_book : StopsWith 65536 two (codes "READ,2,DAY,USE,200,-,2024-01-31\n") (codes "FAULT,2,0,BOOK,13\n")
+  pub of_a_field : StopsWith 65536 two (codes "READ,0,DAY,GIVE,900,-,2023-02-29\n") (codes "FAULT,2,7,TEXT,26\n")
