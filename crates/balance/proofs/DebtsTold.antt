@@ -1,7 +1,6 @@
 -- What lines and year ends tell of debts.
-use Rattle.std.proofs.Common.{◌≡◌, ℕ, ◌+◌, ◌<◌, List, length, set, length-set, slice_get, Some, Ok, ◌-ℤ◌, refl, sym, ap, ◌∙◌, subst, arith}
+use Rattle.std.proofs.Common.{◌≡◌, ℕ, ◌+◌, length, slice_get, Some, Ok, ◌-ℤ◌, refl, sym, ap, ◌∙◌, subst, arith}
 use Rattle.std.proofs.lemmas.Int.{ints}
-use Rattle.std.proofs.lemmas.List.{get_or-set_same}
 use Rattle.std.proofs.lemmas.Option.{slice_get-get_or}
 use Rattle.std.specs.Option.{ok_or}
 use Rattle.billing.specs.declared.supply.Supply.{Supply}
@@ -19,7 +18,7 @@ use Rattle.group.proofs.YearsSound.{holder_inside}
 use Rattle.group.specs.Drafts.{after_month}
 use Rattle.group.specs.Months.{Prices, Share, bill_of, billed_member, lines_of, supplies_at}
 use Rattle.group.specs.Years.{after_year, credited, holder_of, open_year, year_figures}
-use Rattle.balance.proofs.Found.{by_place_at, found_by_place}
+use Rattle.balance.proofs.Found.{by_place_at, found_by_place, found_set}
 use Rattle.balance.proofs.Theorem.{ended_in, issued_is}
 use Rattle.balance.specs.Debts.{IssuesTellDebts, TellsDebt, YearEndsTellDebts, debt_at}
 
@@ -69,12 +68,6 @@ year_drams price group = omega (arith, ints)
 year_debt : (price : Prices) (group : Group) → (year_figures price group).debt ≡ (credited price group).debt
 unfolding year_figures
 year_debt price group = refl
-
--- what is set at a place within a list is found there
-found_set : {A : Type 0} (xs : List A) (i : ℕ) (x : A) → i < length xs → slice_get (set xs i x) i ≡ Some x
-found_set xs i x inside =
-    let here : i < length (set xs i x) = omega (arith, inside, length-set xs i x) in
-    slice_get-get_or (set xs i x) i x here ∙ ap Some (get_or-set_same xs i x x inside)
 
 pub year_ends_tell_debts : YearEndsTellDebts
 year_ends_tell_debts prices old new figures sound is =

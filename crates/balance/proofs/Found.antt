@@ -1,6 +1,7 @@
 -- What is found in a list at a place, and what its elements come to.
-use Rattle.std.proofs.Common.{◌≡◌, ℕ, zero, suc, ◌+◌, List, [], ◌∷◌, map, ℤ, pos, ◌+ℤ◌, set, get_or, length-set, slice_get, Some, ◌≢◌, ◌⊎◌, inl, inr, ⊎_elim, refl, ap, ◌∙◌, arith, add-zero}
+use Rattle.std.proofs.Common.{◌≡◌, ℕ, zero, suc, ◌+◌, ◌<◌, length, List, [], ◌∷◌, map, ℤ, pos, ◌+ℤ◌, set, get_or, length-set, slice_get, Some, ◌≢◌, ◌⊎◌, inl, inr, ⊎_elim, refl, ap, ◌∙◌, arith, add-zero}
 use Rattle.std.proofs.lemmas.Int.{ints}
+use Rattle.std.proofs.lemmas.List.{get_or-set_same}
 use Rattle.std.proofs.lemmas.Option.{slice_get-get_or, slice_get_within}
 use Rattle.group.specs.Months.{by_place}
 
@@ -22,6 +23,12 @@ found_after_set (x ∷ xs) zero y zero z found = inl (refl, cc)
 found_after_set (x ∷ xs) zero y (suc k) z found = inr (λ e. absurd (omega arith), found)
 found_after_set (x ∷ xs) (suc i) y zero z found = inr (λ e. absurd (omega arith), found)
 found_after_set (x ∷ xs) (suc i) y (suc k) z found = ⊎_elim (λ h. inl (ap suc h.0, h.1)) (λ h. inr (λ e. h.0 (omega arith), h.1)) (found_after_set xs i y k z found)
+
+-- what was put at a place within a list is found there
+pub found_set : {A : Type 0} (xs : List A) (i : ℕ) (x : A) → i < length xs → slice_get (set xs i x) i ≡ Some x
+found_set xs i x inside =
+    let here : i < length (set xs i x) = omega (arith, inside, length-set xs i x) in
+    slice_get-get_or (set xs i x) i x here ∙ ap Some (get_or-set_same xs i x x inside)
 
 -- what is found in a list of what is made of the elements of another
 pub found_in_map : {A B : Type 0} (f : A → B) (xs : List A) (k : ℕ) (z : B) → slice_get (map f xs) k ≡ Some z → (x : A) × (slice_get xs k ≡ Some x) × (f x ≡ z)

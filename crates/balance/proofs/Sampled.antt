@@ -29,8 +29,9 @@ sample_tells = record {
   carries_nothing = refl;
   holder_is_owed = refl;
   household_owes = refl;
+  vulnerable_owes = refl;
   balances = subst (λ h. BalancedThroughout line_order sample_prices h closed_group) sample_is (throughout line_order line_order_fair sample_prices (run line_order sample_prices (november ++ december)).0 closed_group (run_leads line_order sample_prices (november ++ december)));
-  no_kwh_more = λ by_night. let e : ◌≡◌ {A = ℤ} (negsuc 42) (negsuc 43) = by_night in omega (arith, ints);
-  no_hundredth_more = λ owes. let e : ◌≡◌ {A = ℤ} (pos 761801) (pos 762801) = owes household refl in omega (arith, ints);
-  not_both = ⊎_elim (λ billed. let e : ◌≡◌ {A = ℕ} 1 0 = billed in omega arith) (λ carried. let e : ◌≡◌ {A = ℕ} 190 0 = carried in omega arith);
+  no_kwh_more = λ by_night. let e : ◌≡◌ {A = ℤ} (negsuc 67) (negsuc 68) = by_night in omega (arith, ints);
+  no_hundredth_more = λ owes. let e : ◌≡◌ {A = ℤ} (pos 754295) (pos 755295) = owes household refl in omega (arith, ints);
+  not_both = ⊎_elim (λ billed. let e : ◌≡◌ {A = ℕ} 1 0 = billed in omega arith) (λ carried. let e : ◌≡◌ {A = ℕ} 140 0 = carried in omega arith);
 }

@@ -45,7 +45,8 @@ NoneOfAnotherGroup =
 -- a call that posts nothing, as a refused one, leaves a draft as current as it was
 abbrev pub QuietCallsLeaveDrafts : Type 0
 QuietCallsLeaveDrafts =
-    (share : Share) (prices : ℕ → Prices) (old : Group) (event : Event) (new : Group) (stamp : Stamp)
+    (share : Share) (prices : ℕ → Prices)
+    (old : Group) (event : Event) (new : Group) (stamp : Stamp)
     → Happens share prices old event new → posting event ≡ []
     → is_current new stamp ≡ is_current old stamp
 
