@@ -13,7 +13,7 @@ use Rattle.ledger.specs.declared.zone.Flow.TheVariants.{Consumed, Delivered}
 use Rattle.ledger.specs.declared.zone.Zone.{Zone}
 use Rattle.ledger.specs.declared.zone.Zone.TheVariants.{Day, Night}
 use Rattle.group.proofs.Stepping.{and_then_ok, made_ok}
-use Rattle.group.specs.Groups.{admitted, altered, entered}
+use Rattle.group.specs.Groups.{altered, entered}
 use Rattle.group.specs.Members.{on_account, on_register, register_at, with_register}
 use Rattle.group.specs.Payments.{paid}
 use Rattle.group.specs.Registers.{corrected, quantity, read}
@@ -24,7 +24,7 @@ use Rattle.group.specs.declared.group.Phase.{Phase}
 use Rattle.group.specs.declared.group.Phase.TheVariants.{Blank, Open, YearEnd, Over}
 use Rattle.group.specs.declared.member.Member.{Member}
 use Rattle.group.specs.declared.register.Register.{Register}
-use Rattle.group.proofs.EntriesSound.{admitted_at}
+use Rattle.group.proofs.EntriesSound.{altered_found as altered_as}
 use Rattle.group.specs.Entries.{place_of, recorded}
 use Rattle.group.specs.Months.{Prices}
 use Rattle.balance.proofs.Found.{found_after_set, sum_of-set}
@@ -129,9 +129,8 @@ corrected_stands kwh r after is = grind (arith, nat_tests, common_steps)
 -- where an entry does a step on a record, the record is found, and the group has what the step makes of it
 pub altered_found : (place : ℕ) (step : Member → Result Member BookRefusal) (old new : Group) → altered place step old ≡ Ok new → (member : Member) × (changed : Member) × (slice_get old.members.items place ≡ Some member) × (step member ≡ Ok changed) × (entered place changed old ≡ new)
 altered_found place step old new is =
-    let (member, admits, rest) = and_then_ok (admitted place old) (λ (m : Member). made (λ (a : Member). entered place a old) (step m)) new is in
-    let (changed, stepped, same) = made_ok (λ (a : Member). entered place a old) (step member) new rest in
-    (member, changed, admitted_at place old member admits, stepped, same)
+    let (member, changed, found, room, stepped, same) = altered_as place step old new is in
+    (member, changed, found, stepped, same)
 
 zones_are : (a b : Zone) → same_zone a b ≡ true → a ≡ b
 zones_are Day Day is = refl

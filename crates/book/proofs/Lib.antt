@@ -1,3 +1,4 @@
+mod Calls
 mod Paid
 mod Posted
 mod Supplies

@@ -1,6 +1,7 @@
 //! The book, by its calls.
-ghost use Rattle.std.specs.Prelude.{◌≡◌, ◌≤◌, length};
+ghost use Rattle.std.specs.Prelude.{◌≡◌, ◌≤◌, IfOk, length};
 ghost use Rattle.balance.specs.Balances.{BeginsBalanced, GoesOnBalanced, drawing_told, issue_told, lines_in};
+ghost use Rattle.book.specs.Calls.{IsInPhaseFor, month_for};
 ghost use Rattle.balance.specs.Histories.{Opening, Entering, Drawing, Checking, Issuing, Withdrawing, Closing};
 ghost use Rattle.ledger.specs.Zones.{in_zone};
 ghost use Rattle.group.specs.Groups.{blank, member_at};
@@ -12,14 +13,15 @@ ghost use Rattle.group.specs.Entries.{after_entry};
 ghost use Rattle.group.specs.Sound.{most_carried, most_entries};
 ghost use Rattle.group.specs.Years.{closed, previewed};
 
+use crate::call::Call;
 use crate::draft::Draft;
-use crate::entry::make_entry;
-use crate::month::{drawable, issue_lines, write_lines};
-use crate::year::{open_year, post_year, year_end};
+use crate::month::{issue_lines, write_lines};
+use crate::year::{post_year, year_end};
 use calendar::days::Month;
 use group::group::{Group, Phase};
 use group::member::{Member, OpeningRecord};
 use group::refusal::BookRefusal;
+use group::register::MeterReading;
 use ledger::bill::{Bill, YearEnd};
 use ledger::entry::Entry;
 use ledger::zone::Zone;
@@ -71,11 +73,7 @@ impl<R: SharingRule, T: Tariff> Book<R, T> {
     pub fn member(&self, place: usize) -> Result<Member, BookRefusal>
         ensures { result ≡ member_at place self.now.group }
     {
-        self.group
-            .members
-            .get(place)
-            .copied()
-            .ok_or(BookRefusal::Place)
+        self.group.member_at(place)
     }
 
     /// How many members the group has, which is none before the opening.
@@ -121,7 +119,7 @@ impl<R: SharingRule, T: Tariff> Book<R, T> {
     pub fn year_end(&self) -> Result<YearEnd, BookRefusal>
         ensures { result ≡ previewed (T.Tariff.price self.now.tariff) self.now.group }
     {
-        let december = open_year(&self.group)?;
+        let december = self.month_for(Call::Close)?;
         let (figures, _) = year_end(&self.tariff, &self.group, december);
         Ok(figures)
     }
@@ -140,13 +138,9 @@ impl<R: SharingRule, T: Tariff> Book<R, T> {
         ensures balance { GoesOnBalanced R.SharingRule.sharing T.Tariff.price
             self.old (Opening number start holder records.now result) self.new }
     {
-        match self.group.phase {
-            Phase::Blank => {
-                self.group = Group::opened(number, start, holder, records)?;
-                Ok(())
-            }
-            Phase::Open(_) | Phase::YearEnd(_) | Phase::Over => Err(BookRefusal::Opened),
-        }
+        let month = self.month_for(Call::Open { start })?;
+        self.group = Group::opened(number, month, holder, records)?;
+        Ok(())
     }
 
     /// Makes an entry in the open month.
@@ -156,7 +150,46 @@ impl<R: SharingRule, T: Tariff> Book<R, T> {
         ensures balance { GoesOnBalanced R.SharingRule.sharing T.Tariff.price
             self.old (Entering entry result) self.new }
     {
-        make_entry(&mut self.group, entry)
+        match (self.group.phase, entry) {
+            (
+                Phase::Open(month),
+                Entry::Reading {
+                    register,
+                    day,
+                    value,
+                },
+            ) => self.group.read(
+                month,
+                MeterReading {
+                    register,
+                    day,
+                    value,
+                    start: value,
+                },
+            ),
+            (
+                Phase::Open(month),
+                Entry::Change {
+                    register,
+                    day,
+                    value,
+                    start,
+                },
+            ) => self.group.read(
+                month,
+                MeterReading {
+                    register,
+                    day,
+                    value,
+                    start,
+                },
+            ),
+            (Phase::Open(_), Entry::Correction { register, quantity }) => {
+                self.group.correct(register, quantity)
+            }
+            (Phase::Open(_), Entry::Payment { place, drams }) => self.group.pay(place, drams),
+            (Phase::Blank | Phase::YearEnd(_) | Phase::Over, _) => Err(BookRefusal::NoMonth),
+        }
     }
 
     /// Writes the lines of the open month into a slice and gives a draft of them, which alters nothing in the book.
@@ -168,7 +201,9 @@ impl<R: SharingRule, T: Tariff> Book<R, T> {
         ensures balance { GoesOnBalanced R.SharingRule.sharing T.Tariff.price
             self.now (Drawing (length lines.old) (drawing_told result (lines_in self.now.group lines.new))) self.now }
     {
-        let month = drawable(&self.group, lines.len())?;
+        let month = self.month_for(Call::Draw {
+            places: lines.len(),
+        })?;
         write_lines(&self.rule, &self.tariff, &self.group, month, lines);
         Ok(Draft::of(&self.group, month))
     }
@@ -179,7 +214,7 @@ impl<R: SharingRule, T: Tariff> Book<R, T> {
         ensures balance { GoesOnBalanced R.SharingRule.sharing T.Tariff.price
             self.now (Checking draft result.1) self.now }
     {
-        let current = draft.is_current(&self.group);
+        let current = self.is_current(&draft);
         (draft, current)
     }
 
@@ -193,11 +228,12 @@ impl<R: SharingRule, T: Tariff> Book<R, T> {
         ensures balance { GoesOnBalanced R.SharingRule.sharing T.Tariff.price
             self.old (Issuing draft (length lines.old) (issue_told result (lines_in self.old.group lines.new))) self.new }
     {
-        let current = draft.ends_current(&self.group);
-        let month = drawable(&self.group, lines.len())?;
-        if !current {
-            return Err(BookRefusal::Draft);
-        }
+        let current = self.is_current(&draft);
+        self.withdraw(draft);
+        let month = self.month_for(Call::Issue {
+            places: lines.len(),
+            current,
+        })?;
         issue_lines(&self.rule, &self.tariff, &mut self.group, month, lines);
         Ok(())
     }
@@ -218,9 +254,41 @@ impl<R: SharingRule, T: Tariff> Book<R, T> {
         ensures balance { GoesOnBalanced R.SharingRule.sharing T.Tariff.price
             self.old (Closing result) self.new }
     {
-        let december = open_year(&self.group)?;
+        let december = self.month_for(Call::Close)?;
         let (figures, holder) = year_end(&self.tariff, &self.group, december);
         post_year(&mut self.group, holder, december);
         Ok(figures)
+    }
+
+    // The month that a call is for, where the book is in the phase for it.
+    fn month_for(&self, call: Call) -> Result<Month, BookRefusal>
+        ensures answer { result ≡ month_for call self.now.group }
+        ensures phase { IfOk result (λ month. IsInPhaseFor call self.now.group month) }
+    {
+        let members = self.members();
+        match (self.group.phase, call) {
+            (Phase::Blank, Call::Open { start }) => Ok(start),
+            (Phase::Open(month), Call::Draw { places }) if members <= places => Ok(month),
+            (Phase::Open(_), Call::Draw { .. }) => Err(BookRefusal::Lines),
+            (Phase::Open(_), Call::Issue { places, .. }) if places < members => {
+                Err(BookRefusal::Lines)
+            }
+            (Phase::Open(month), Call::Issue { current: true, .. }) => Ok(month),
+            (Phase::Open(_), Call::Issue { current: false, .. }) => Err(BookRefusal::Draft),
+            (Phase::YearEnd(december), Call::Close) => Ok(december),
+            (_, Call::Open { .. }) => Err(BookRefusal::Opened),
+            (_, Call::Draw { .. } | Call::Issue { .. }) => Err(BookRefusal::NoMonth),
+            (_, Call::Close) => Err(BookRefusal::NoYearEnd),
+        }
+    }
+
+    // Whether a draft is current, which none is but in an open month.
+    fn is_current(&self, draft: &Draft) -> bool
+        ensures { result ≡ is_current self.now.group draft.now }
+    {
+        match (self.group.phase, draft) {
+            (Phase::Open(month), draft) => draft.is_of(&self.group, month),
+            (Phase::Blank | Phase::YearEnd(_) | Phase::Over, _) => false,
+        }
     }
 }

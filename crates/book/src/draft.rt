@@ -1,9 +1,9 @@
 //! Drafts of a month's bills.
 ghost use Rattle.std.specs.Prelude.{◌≡◌};
-ghost use Rattle.group.specs.Drafts.{is_current, stamped};
+ghost use Rattle.group.specs.Drafts.{is_of, stamped};
 
 use calendar::days::Month;
-use group::group::{Group, Phase};
+use group::group::Group;
 use std::marker::Model;
 
 /// A draft of a month's bills. It can be neither copied nor dropped: only drawing makes one, and it ends in an issue or a withdrawal.
@@ -44,25 +44,11 @@ impl Draft {
         self.month
     }
 
-    // Whether it tells of the group as it stands.
-    pub(crate) fn is_current(&self, group: &Group) -> bool
-        ensures { result ≡ is_current group.now self.now }
+    // Whether its three numbers are those of a draft of the group in a month.
+    pub(crate) fn is_of(&self, group: &Group, month: Month) -> bool
+        ensures { result ≡ is_of month group.now self.now }
     {
-        match group.phase {
-            Phase::Open(month) => {
-                self.number == group.number && self.month == month && self.entries == group.entries
-            }
-            Phase::Blank | Phase::YearEnd(_) | Phase::Over => false,
-        }
-    }
-
-    // Lets the draft go, and tells whether it was current.
-    pub(crate) fn ends_current(self, group: &Group) -> bool
-        ensures { result ≡ is_current group.now self }
-    {
-        let current = self.is_current(group);
-        self.end();
-        current
+        self.number == group.number && self.month == month && self.entries == group.entries
     }
 
     // Lets the draft go.

@@ -2,8 +2,8 @@
 #![tactic(auto)]
 
 pub mod book;
+mod call;
 pub mod draft;
-mod entry;
 mod month;
 mod posting;
 mod year;

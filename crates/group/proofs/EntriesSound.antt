@@ -1,5 +1,5 @@
 -- No entry leaves the ranges of a group's figures.
-use Rattle.std.proofs.Common.{Err, length-set, Some, slice_get, nat_lt, if◌then◌else◌, ap, ◌∙◌, ◌≡◌, ℕ, ◌+◌, ◌*◌, ◌<◌, ◌≤◌, Ok, Result, ℤ, nat_abs, arith, subst, sym}
+use Rattle.std.proofs.Common.{Err, length-set, Some, slice_get, ap, ◌∙◌, ◌≡◌, ℕ, ◌+◌, ◌*◌, ◌<◌, ◌≤◌, Ok, Result, ℤ, nat_abs, arith, subst, sym}
 use Rattle.std.proofs.lemmas.Bool.Decides.{nat_tests}
 use Rattle.std.proofs.lemmas.Grind.{common_steps}
 use Rattle.std.proofs.lemmas.Int.{ints}
@@ -18,7 +18,7 @@ use Rattle.group.specs.declared.group.Phase.{Phase}
 use Rattle.group.specs.declared.group.Phase.TheVariants.{Blank, Open, YearEnd, Over}
 use Rattle.std.proofs.lemmas.List.Elements.{All-set}
 use Rattle.std.specs.Option.{ok_or}
-use Rattle.group.specs.Groups.{admitted, altered, entered}
+use Rattle.group.specs.Groups.{altered, entered, member_at, most_in_month, room_for_entry}
 use Rattle.group.specs.declared.group.Group.{Group}
 use Rattle.group.specs.declared.refusal.BookRefusal.TheVariants as refused
 use Rattle.group.specs.Members.{on_account, on_register, register_at, with_register}
@@ -32,8 +32,8 @@ use Rattle.group.specs.Entries.{after_entry, open_month, place_of, recorded}
 use Rattle.group.specs.Sound.{Sound, SoundFlows, SoundMember, SoundPhase, SoundRegister, most_entries, most_owed}
 
 -- what is read of a register is of seven digits, and its tally in range
-read_sound : (month day value next : ℕ) (register after : Register) → read month day value next register ≡ Ok after → SoundRegister after
-read_sound month day value next register after is =
+read_sound : (month day value start : ℕ) (register after : Register) → read month day value start register ≡ Ok after → SoundRegister after
+read_sound month day value start register after is =
     let standing : after.standing ≤ 9999999 = grind (arith, nat_tests, common_steps) in
     let tally : nat_abs after.tally ≤ 1000000 = grind (arith, nat_tests, common_steps) in
     record { standing = standing; tally = tally }
@@ -105,29 +105,26 @@ open_is Over month is = absurd cc
 owed_enough : (phase : Phase) (month : ℕ) → phase ≡ Open month → 1000000000 ≤ most_owed phase
 owed_enough phase month is = let owed : most_owed phase ≡ 1000000000 + 2000000000000 * month = ap most_owed is in omega (arith, owed)
 
--- what an admitted entry is for is a record of the group
-pub admitted_at : (place : ℕ) (group : Group) (member : Member) → admitted place group ≡ Ok member → slice_get group.members.items place ≡ Some member
-admitted_at place group member is =
-    let (found, told, rest) = and_then_ok (ok_or (slice_get group.members.items place) refused.Place) (λ found. if nat_lt group.entries 1000 then Ok found else Err refused.Full) member is in
-    let same : found ≡ member = grind (arith, nat_tests) in
-    ok_or_ok (slice_get group.members.items place) refused.Place found told ∙ ap (λ (m : Member). Some m) same
+-- the month has under 1,000 entries
+has_room : (group : Group) (done : Unit {0}) → room_for_entry group ≡ Ok done → group.entries < most_in_month
+has_room group done is = grind (arith, nat_tests)
 
--- and the month has room for it
-admitted_room : (place : ℕ) (group : Group) (member : Member) → admitted place group ≡ Ok member → group.entries < 1000
-admitted_room place group member is =
-    let (found, told, rest) = and_then_ok (ok_or (slice_get group.members.items place) refused.Place) (λ found. if nat_lt group.entries 1000 then Ok found else Err refused.Full) member is in
-    grind (arith, nat_tests)
+-- where an entry does a step on a record, the record is found, the month has room, and the group has what the step makes of it
+pub altered_found : (place : ℕ) (step : Member → Result Member BookRefusal) (old new : Group) → altered place step old ≡ Ok new → (member : Member) × (changed : Member) × (slice_get old.members.items place ≡ Some member) × (old.entries < most_in_month) × (step member ≡ Ok changed) × (entered place changed old ≡ new)
+altered_found place step old new is =
+    let (member, found, more) = and_then_ok (member_at place old) (λ (m : Member). and_then (room_for_entry old) (λ (room : Unit {0}). made (λ (a : Member). entered place a old) (step m))) new is in
+    let (room, has, rest) = and_then_ok (room_for_entry old) (λ (room : Unit {0}). made (λ (a : Member). entered place a old) (step member)) new more in
+    let (changed, stepped, same) = made_ok (λ (a : Member). entered place a old) (step member) new rest in
+    (member, changed, ok_or_ok (slice_get old.members.items place) refused.Place member found, has_room old room has, stepped, same)
 
 -- no entry leaves the ranges of a group's figures
 altered_sound : (place month : ℕ) (step : Member → Result Member BookRefusal) (group after : Group) → group.phase ≡ Open month → ((member changed : Member) → SoundMember (most_owed group.phase) member → step member ≡ Ok changed → SoundMember (most_owed group.phase) changed) → Sound group → altered place step group ≡ Ok after → Sound after
 altered_sound place month step group after opened keeps sound is =
-    let (member, found, rest) = and_then_ok (admitted place group) (λ (m : Member). made (λ (a : Member). entered place a group) (step m)) after is in
-    let (changed, stepped, same) = made_ok (λ (a : Member). entered place a group) (step member) after rest in
+    let (member, changed, found, room, stepped, same) = altered_found place step group after is in
     let P : Member → Type 0 = λ m. SoundMember (most_owed group.phase) m in
-    let was : SoundMember (most_owed group.phase) member = found_all P group.members.items place member sound.each (admitted_at place group member found) in
+    let was : SoundMember (most_owed group.phase) member = found_all P group.members.items place member sound.each found in
     let kept : SoundMember (most_owed group.phase) changed = keeps member changed was stepped in
     let as_many = length-set group.members.items place changed in
-    let room = admitted_room place group member found in
     let most : most_entries group.phase ≡ 1000 = ap most_entries opened in
     let Q : Group → Type 0 = λ g. Sound g in
     let R : ℕ → Type 0 = λ n. SoundPhase group.phase group.holder n in

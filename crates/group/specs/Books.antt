@@ -1,5 +1,5 @@
 -- What contracts see of a book: a group, with the rule and the tariff that it is settled by.
-use Rattle.std.specs.Prelude.{◌≡◌, ℕ, List, Ok, Err, Result}
+use Rattle.std.specs.Prelude.{◌≡◌, ℕ, Bool, true, false, if◌then◌else◌, List, Ok, Err, Result}
 use Rattle.group.specs.Groups.{opened}
 use Rattle.group.specs.Results.{and_then}
 use Rattle.group.specs.declared.group.Group.{Group}
@@ -20,12 +20,16 @@ pub record SameTerms {R T : Type 0} (old new : BookState R T) : Type 0 where
   pub rule : new.rule ≡ old.rule
   pub tariff : new.tariff ≡ old.tariff
 
+-- the group was opened before
+abbrev pub was_opened : Phase → Bool
+was_opened Blank = false
+was_opened (Open month) = true
+was_opened (YearEnd december) = true
+was_opened Over = true
+
 -- whether a group was never opened
 abbrev pub unopened : Phase → Result (Unit {0}) BookRefusal
-unopened Blank = Ok tt
-unopened (Open month) = Err Opened
-unopened (YearEnd december) = Err Opened
-unopened Over = Err Opened
+unopened phase = if was_opened phase then Err Opened else Ok tt
 
 -- the group after an opening
 abbrev pub after_opening : (number start holder : ℕ) → List OpeningRecord → Group → Result Group BookRefusal

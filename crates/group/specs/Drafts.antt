@@ -1,5 +1,5 @@
 -- A draft, when it is current, and what drawing and issuing make of a group.
-use Rattle.std.specs.Prelude.{ℕ, ◌+◌, ◌%◌, Bool, false, ◌&&◌, if◌then◌else◌, List, ◌++◌, length, drop, ◌==◌, nat_lt, Ok, Err, Result}
+use Rattle.std.specs.Prelude.{ℕ, ◌+◌, ◌%◌, Bool, false, not, ◌&&◌, if◌then◌else◌, List, ◌++◌, length, drop, ◌==◌, nat_lt, Ok, Err, Result}
 use Rattle.ledger.specs.declared.bill.Bill.{Bill}
 use Rattle.group.specs.Results.{and_then, made}
 use Rattle.group.specs.declared.group.Group.{Group}
@@ -20,11 +20,15 @@ pub record Stamp : Type 0 where
 abbrev pub stamped : (month : ℕ) → Group → Stamp
 stamped month group = record { number = group.number; month = month; entries = group.entries }
 
+-- the three numbers are those of a draft of the group in a month
+abbrev pub is_of : (month : ℕ) → Group → Stamp → Bool
+is_of month group stamp =
+    stamp.number == group.number && (stamp.month == month && stamp.entries == group.entries)
+
 -- the three numbers are those of a draft of now
 abbrev agrees : Phase → Group → Stamp → Bool
 agrees Blank group stamp = false
-agrees (Open month) group stamp =
-    stamp.number == group.number && (stamp.month == month && stamp.entries == group.entries)
+agrees (Open month) group stamp = is_of month group stamp
 agrees (YearEnd december) group stamp = false
 agrees Over group stamp = false
 
@@ -32,11 +36,19 @@ agrees Over group stamp = false
 abbrev pub is_current : Group → Stamp → Bool
 is_current group stamp = agrees group.phase group stamp
 
+-- a draft is not current
+abbrev pub draft_is_out_of_date : Group → Stamp → Bool
+draft_is_out_of_date group stamp = not (is_current group stamp)
+
+-- a slice of so many places is shorter than the group
+abbrev pub slice_is_too_short : (places : ℕ) → Group → Bool
+slice_is_too_short places group = nat_lt places (length group.members.items)
+
 -- the month that is open, where a slice of so many places has room for the lines of the group
 abbrev pub drawable : (places : ℕ) → Group → Result ℕ BookRefusal
 drawable places group =
     and_then (open_month group.phase) (λ month.
-    if nat_lt places (length group.members.items) then Err refused.Lines else Ok month)
+    if slice_is_too_short places group then Err refused.Lines else Ok month)
 
 -- a draft, and the lines of a drawing
 abbrev pub drawn : Share → (ℕ → Prices) → (places : ℕ) → Group → Result (Stamp × List Bill) BookRefusal

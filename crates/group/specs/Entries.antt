@@ -1,5 +1,5 @@
 -- What an entry makes of a group, or why it is refused.
-use Rattle.std.specs.Prelude.{ℕ, Ok, Err, Result}
+use Rattle.std.specs.Prelude.{ℕ, Bool, Ok, Err, Result, is_err}
 use Rattle.ledger.specs.declared.entry.Entry.{Entry}
 use Rattle.ledger.specs.declared.entry.Entry.TheVariants.{Reading, Change, Correction, Payment}
 use Rattle.group.specs.Groups.{altered}
@@ -20,6 +20,10 @@ open_month Blank = Err NoMonth
 open_month (Open month) = Ok month
 open_month (YearEnd december) = Err NoMonth
 open_month Over = Err NoMonth
+
+-- no month is open
+abbrev pub no_month_is_open : Phase → Bool
+no_month_is_open phase = is_err (open_month phase)
 
 -- the place that an entry is for
 abbrev pub place_of : Entry → ℕ

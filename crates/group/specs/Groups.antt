@@ -1,5 +1,5 @@
 -- A group: how it opens, and what an entry changes in it.
-use Rattle.std.specs.Prelude.{ℕ, ◌+◌, Bool, not, ◌&&◌, ◌||◌, if◌then◌else◌, List, [], map, length, nat_le, nat_lt, slice_get, sum_by, false, Ok, Err, Result}
+use Rattle.std.specs.Prelude.{ℕ, ◌+◌, Bool, not, ◌&&◌, ◌||◌, if◌then◌else◌, List, [], map, length, nat_le, nat_lt, slice_get, sum_by, false, is_some, Ok, Err, Result}
 use Rattle.std.specs.List.{list_all, list_any}
 use Rattle.std.specs.Option.{ok_or, option_map_or}
 use Rattle.arrayvec.specs.ArrayVec.{with_item}
@@ -23,15 +23,46 @@ blank = record {
   entries = 0;
 }
 
+-- the most members of a group
+abbrev pub most_members : ℕ
+most_members = 32
+
+-- the largest capacity of a member, and the largest sum of them, in kW
+abbrev pub most_capacity : ℕ
+most_capacity = 150
+
+abbrev pub most_capacities : ℕ
+most_capacities = 1050
+
+-- the most entries of a month
+abbrev pub most_in_month : ℕ
+most_in_month = 1000
+
+-- there are not 1 to 32 records
+abbrev pub count_is_outside : List OpeningRecord → Bool
+count_is_outside records = nat_lt (length records) 1 || nat_lt most_members (length records)
+
+-- the start month is after December 2099
+abbrev pub start_is_too_late : (start : ℕ) → Bool
+start_is_too_late start = nat_lt 1199 start
+
 -- no capacity is over 150 kW, and their sum is not over 1,050 kW
 abbrev pub capacities_fit : List OpeningRecord → Bool
 capacities_fit records =
-    list_all (λ opening. nat_le (capacity_of opening) 150) records
-    && nat_le (sum_by capacity_of records) 1050
+    list_all (λ opening. nat_le (capacity_of opening) most_capacity) records
+    && nat_le (sum_by capacity_of records) most_capacities
+
+-- a capacity is over its limit, or their sum is
+abbrev pub is_over_capacity : List OpeningRecord → Bool
+is_over_capacity records = not (capacities_fit records)
 
 -- somebody stands at this place, and has at least 1 kW
 abbrev pub is_producer : (place : ℕ) → List OpeningRecord → Bool
 is_producer place records = option_map_or (λ opening. nat_lt 0 (capacity_of opening)) (slice_get records place) false
+
+-- the holder's place has no record with capacity above 0
+abbrev pub holder_produces_nothing : (holder : ℕ) → List OpeningRecord → Bool
+holder_produces_nothing holder records = not (is_producer holder records)
 
 -- a register opens over 9,999,999 kWh
 abbrev pub some_over : List OpeningRecord → Bool
@@ -40,10 +71,10 @@ some_over records = list_any has_register_over records
 -- whether a group may open so: the first refusal that stands, or none
 abbrev pub opening : (start holder : ℕ) → List OpeningRecord → Result (Unit {0}) BookRefusal
 opening start holder records =
-    if nat_lt (length records) 1 || nat_lt 32 (length records) then Err refused.Count
-    else (if nat_lt 1199 start then Err refused.Start
-    else (if not (capacities_fit records) then Err refused.Capacity
-    else (if not (is_producer holder records) then Err refused.Holder
+    if count_is_outside records then Err refused.Count
+    else (if start_is_too_late start then Err refused.Start
+    else (if is_over_capacity records then Err refused.Capacity
+    else (if holder_produces_nothing holder records then Err refused.Holder
     else (if some_over records then Err refused.Register
     else Ok tt))))
 
@@ -65,11 +96,17 @@ opened number start holder records =
 abbrev pub member_at : (place : ℕ) → Group → Result Member BookRefusal
 member_at place group = ok_or (slice_get group.members.items place) refused.Place
 
--- the record that an entry is for, where the place has one and the month has under 1,000 entries
-abbrev pub admitted : (place : ℕ) → Group → Result Member BookRefusal
-admitted place group =
-    and_then (member_at place group) (λ member.
-    if nat_lt group.entries 1000 then Ok member else Err refused.Full)
+-- the place has no record
+abbrev pub place_has_no_record : (place : ℕ) → Group → Bool
+place_has_no_record place group = not (is_some (slice_get group.members.items place))
+
+-- the month has no room for one more entry
+abbrev pub month_is_full : Group → Bool
+month_is_full group = nat_le most_in_month group.entries
+
+-- whether the month has room for one more entry
+abbrev pub room_for_entry : Group → Result (Unit {0}) BookRefusal
+room_for_entry group = if month_is_full group then Err refused.Full else Ok tt
 
 -- the group with one more entry, which made this of the record at a place
 abbrev pub entered : (place : ℕ) → Member → Group → Group
@@ -81,4 +118,6 @@ entered place member group = record group {
 -- the group after an entry that does a step on the record at a place
 abbrev pub altered : (place : ℕ) → (Member → Result Member BookRefusal) → Group → Result Group BookRefusal
 altered place step group =
-    and_then (admitted place group) (λ member. made (λ after. entered place after group) (step member))
+    and_then (member_at place group) (λ member.
+    and_then (room_for_entry group) (λ room.
+    made (λ after. entered place after group) (step member)))

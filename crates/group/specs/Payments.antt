@@ -1,12 +1,28 @@
 -- What a payment does to an account.
-use Rattle.std.specs.Prelude.{ℕ, ◌||◌, if◌then◌else◌, pos, negsuc, ◌-ℤ◌, int_lt, nat_lt, Ok, Err, Result}
+use Rattle.std.specs.Prelude.{ℕ, Bool, ◌||◌, if◌then◌else◌, ℤ, pos, negsuc, ◌-ℤ◌, int_lt, nat_lt, Ok, Err, Result}
 use Rattle.billing.specs.declared.account.Account.{Account}
 use Rattle.group.specs.declared.refusal.BookRefusal.{BookRefusal}
 use Rattle.group.specs.declared.refusal.BookRefusal.TheVariants.{Value, Debt}
 
--- the account after a payment of 1 to 100,000,000 drams, which may not leave a debt below -1,000,000,000
+-- the largest payment, in drams
+abbrev pub most_payment : ℕ
+most_payment = 100000000
+
+-- the lowest debt that a payment may leave, in drams
+abbrev pub least_debt : ℤ
+least_debt = negsuc 999999999
+
+-- a payment is not of 1 to 100,000,000 drams
+abbrev pub payment_is_outside : (drams : ℕ) → Bool
+payment_is_outside drams = nat_lt drams 1 || nat_lt most_payment drams
+
+-- a payment would leave a debt below -1,000,000,000 drams
+abbrev pub debt_would_be_too_low : (drams : ℕ) → Account → Bool
+debt_would_be_too_low drams account = int_lt (account.debt -ℤ pos drams) least_debt
+
+-- the account after a payment
 abbrev pub paid : (drams : ℕ) → Account → Result Account BookRefusal
 paid drams account =
-    if nat_lt drams 1 || nat_lt 100000000 drams then Err Value
-    else (if int_lt (account.debt -ℤ pos drams) (negsuc 999999999) then Err Debt
+    if payment_is_outside drams then Err Value
+    else (if debt_would_be_too_low drams account then Err Debt
     else Ok (record account { debt = account.debt -ℤ pos drams }))

@@ -1,5 +1,5 @@
 -- What a reading, a meter change and a correction do to a register.
-use Rattle.std.specs.Prelude.{ℕ, ◌-◌, Bool, not, ◌||◌, if◌then◌else◌, ℤ, pos, ◌+ℤ◌, nat_abs, nat_le, nat_lt, Option, Some, None, Ok, Err, Result}
+use Rattle.std.specs.Prelude.{ℕ, ◌-◌, Bool, not, ◌||◌, if◌then◌else◌, ℤ, pos, ◌+ℤ◌, nat_abs, nat_le, nat_lt, Option, Some, None, is_some, Ok, Err, Result}
 use Rattle.std.specs.Option.{ok_or}
 use Rattle.calendar.specs.Gregorian.{lies_in}
 use Rattle.group.specs.Results.{and_then, made}
@@ -11,33 +11,57 @@ use Rattle.group.specs.declared.register.Register.{Register}
 unfoldable pub quantity : (standing value : ℕ) → Option ℕ
 quantity standing value = if nat_le standing value then Some (value - standing) else None
 
--- a tally and a quantity together, or a refusal beyond 1,000,000 kWh either way
+-- the largest value of a register, which has seven digits, in kWh
+abbrev pub most_standing : ℕ
+most_standing = 9999999
+
+-- the largest tally and the largest correction, in kWh either way
+abbrev pub most_tally : ℕ
+most_tally = 1000000
+
+-- the day lies outside the month
+abbrev pub day_is_outside : (month day : ℕ) → Bool
+day_is_outside month day = not (lies_in day month)
+
+-- no register of seven digits can stand at the value
+abbrev pub is_over : ℕ → Bool
+is_over value = nat_lt most_standing value
+
+-- no register can stand at the value, or none at the one from which it goes on
+abbrev pub value_is_too_large : (value start : ℕ) → Bool
+value_is_too_large value start = is_over value || is_over start
+
+-- the value is below the one that the register stands at
+abbrev pub value_is_below : (standing value : ℕ) → Bool
+value_is_below standing value = not (is_some (quantity standing value))
+
+-- a tally or a correction is beyond 1,000,000 kWh either way
+abbrev pub is_beyond : ℤ → Bool
+is_beyond kwh = nat_lt most_tally (nat_abs kwh)
+
+-- a tally and a quantity together
 abbrev pub tally_with : (tally quantity : ℤ) → Result ℤ BookRefusal
 tally_with tally quantity =
-    if nat_lt 1000000 (nat_abs (tally +ℤ quantity)) then Err Tally else Ok (tally +ℤ quantity)
+    if is_beyond (tally +ℤ quantity) then Err Tally else Ok (tally +ℤ quantity)
 
--- a value that no register of seven digits can stand at
-abbrev pub is_over : ℕ → Bool
-is_over value = nat_lt 9999999 value
-
--- the register with the quantity of a value in its tally, which from then on stands at the next value
-abbrev pub counted : (value next : ℕ) → Register → Result Register BookRefusal
-counted value next register =
+-- the register with the quantity of a value in its tally, which from then on stands at the start value
+abbrev pub counted : (value start : ℕ) → Register → Result Register BookRefusal
+counted value start register =
     and_then (ok_or (quantity register.standing value) Below) (λ kwh.
-    made (λ tally. record { standing = next; tally = tally }) (tally_with register.tally (pos kwh)))
+    made (λ tally. record { standing = start; tally = tally }) (tally_with register.tally (pos kwh)))
 
--- the register after a value is read of it on a day of the month; from then on it stands at the next one,
--- which is the same value for a reading, and the start value of the new meter for a change
-abbrev pub read : (month day value next : ℕ) → Register → Result Register BookRefusal
-read month day value next register =
-    if not (lies_in day month) then Err Day
-    else (if is_over value || is_over next then Err Value
-    else counted value next register)
+-- the register after a value is read of it on a day of the month; from then on it stands at the start value,
+-- which is the same value for a reading, and that of the new meter for a change
+abbrev pub read : (month day value start : ℕ) → Register → Result Register BookRefusal
+read month day value start register =
+    if day_is_outside month day then Err Day
+    else (if value_is_too_large value start then Err Value
+    else counted value start register)
 
 -- the register after a correction of its tally, where it stands as before
 abbrev pub corrected : ℤ → Register → Result Register BookRefusal
 corrected kwh register =
-    if nat_lt 1000000 (nat_abs kwh) then Err Value
+    if is_beyond kwh then Err Value
     else made (λ tally. record register { tally = tally }) (tally_with register.tally kwh)
 
 -- a register as it opens: nothing is tallied

@@ -1,6 +1,6 @@
 //! A group, its opening, and its entries, each of which changes one record.
 ghost use Rattle.std.specs.Prelude.{◌≡◌, ◌<◌, ◌≤◌, length};
-ghost use Rattle.group.specs.Groups.{admitted, altered, blank, capacities_fit, entered, is_producer, members_of, opened, opening, some_over};
+ghost use Rattle.group.specs.Groups.{altered, blank, capacities_fit, entered, is_producer, member_at, members_of, most_in_month, most_members, opened, opening, room_for_entry, some_over};
 ghost use Rattle.group.specs.Members.{on_account, on_register};
 ghost use Rattle.group.specs.Payments.{paid};
 ghost use Rattle.group.specs.Registers.{corrected, read};
@@ -8,8 +8,9 @@ ghost use Rattle.group.specs.Results.{Follows};
 
 use crate::member::{Member, OpeningRecord};
 use crate::refusal::BookRefusal;
+use crate::register::MeterReading;
 use arrayvec::ArrayVec;
-use calendar::days::{Day, LAST_MONTH, Month};
+use calendar::days::{LAST_MONTH, Month};
 use ledger::entry::MemberRegister;
 use ledger::zone::ByZone;
 use sharing::rule::PLACES;
@@ -85,59 +86,64 @@ impl Group {
         })
     }
 
-    /// Enters what is read of a register.
-    pub fn read(
-        &mut self,
-        at: MemberRegister,
-        month: Month,
-        day: Day,
-        value: u32,
-        next: u32,
-    ) -> Result<(), BookRefusal>
-        ensures { Follows (altered at.place (on_register at (read month day value next)) self.old)
+    /// The record of the member at a place.
+    pub fn member_at(&self, place: usize) -> Result<Member, BookRefusal>
+        ensures { result ≡ member_at place self.now }
+    {
+        self.members.get(place).copied().ok_or(BookRefusal::Place)
+    }
+
+    /// Enters what is read of a register in a month, of which the caller has seen that it is open.
+    pub fn read(&mut self, month: Month, reading: MeterReading) -> Result<(), BookRefusal>
+        ensures { Follows
+            (altered reading.register.place
+            (on_register reading.register (read month reading.day reading.value reading.start)) self.old)
             self.old result self.new }
     {
-        let mut member = self.admit(at.place)?;
-        member.read(at, month, day, value, next)?;
-        self.enter(at.place, member);
+        let mut member = self.member_at(reading.register.place)?;
+        self.room_for_entry()?;
+        member.read(month, reading)?;
+        self.enter(reading.register.place, member);
         Ok(())
     }
 
-    /// Enters a correction of a register's tally.
+    /// Enters a correction of a register's tally where the caller has seen that a month is open.
     pub fn correct(&mut self, at: MemberRegister, kwh: i32) -> Result<(), BookRefusal>
-        ensures { Follows (altered at.place (on_register at (corrected kwh)) self.old) self.old result self.new }
+        ensures { Follows (altered at.place (on_register at (corrected kwh)) self.old)
+            self.old result self.new }
     {
-        let mut member = self.admit(at.place)?;
+        let mut member = self.member_at(at.place)?;
+        self.room_for_entry()?;
         member.correct(at, kwh)?;
         self.enter(at.place, member);
         Ok(())
     }
 
-    /// Enters a payment in drams by the member at a place.
+    /// Enters a payment in drams by the member at a place where the caller has seen that a month is open.
     pub fn pay(&mut self, place: usize, drams: u32) -> Result<(), BookRefusal>
         ensures { Follows (altered place (on_account (paid drams)) self.old) self.old result self.new }
     {
-        let mut member = self.admit(place)?;
+        let mut member = self.member_at(place)?;
+        self.room_for_entry()?;
         member.pay(drams)?;
         self.enter(place, member);
         Ok(())
     }
 
-    // The record that an entry is for, where the month has room for one.
-    fn admit(&self, place: usize) -> Result<Member, BookRefusal>
-        ensures { result ≡ admitted place self.now }
+    // Whether the month has room for one more entry.
+    fn room_for_entry(&self) -> Result<(), BookRefusal>
+        ensures { result ≡ room_for_entry self.now }
     {
-        let member = self.members.get(place).ok_or(BookRefusal::Place)?;
         if self.entries >= MOST_ENTRIES {
             return Err(BookRefusal::Full);
         }
-        Ok(*member)
+        Ok(())
     }
 
     // Replaces the record at a place by what an entry made of it; every other record stays.
     fn enter(&mut self, place: usize, member: Member)
         requires place { place < length self.old.members.items }
-        requires room { self.old.entries < 1000 }
+        requires room { self.old.entries < most_in_month }
         ensures { self.new ≡ entered place member self.old }
     {
         self.members[place] = member;
@@ -169,7 +175,7 @@ fn opening(start: Month, holder: usize, records: &[OpeningRecord]) -> Result<(),
 
 // Whether each capacity and their sum are within their limits.
 fn capacities_fit(records: &[OpeningRecord]) -> bool
-    requires { length records.now ≤ 32 }
+    requires { length records.now ≤ most_members }
     ensures { result ≡ capacities_fit records.now }
 {
     let mut sum = 0;
@@ -200,7 +206,7 @@ fn some_over(records: &[OpeningRecord]) -> bool
 
 // The records of the members as a group opens.
 fn members_of(records: &[OpeningRecord]) -> ArrayVec<Member, PLACES>
-    requires { length records.now ≤ 32 }
+    requires { length records.now ≤ most_members }
     ensures { result.items ≡ members_of records.now }
 {
     let mut members = ArrayVec::new();

@@ -7,9 +7,9 @@ ghost use Rattle.group.specs.Results.{Follows};
 
 use crate::payment::paid;
 use crate::refusal::BookRefusal;
-use crate::register::{MOST_STANDING, Register};
+use crate::register::{MOST_STANDING, MeterReading, Register};
 use billing::account::Account;
-use calendar::days::{Day, Month};
+use calendar::days::Month;
 use ledger::entry::MemberRegister;
 use ledger::zone::{ByFlow, ByZone};
 use tariff::class::Class;
@@ -115,18 +115,13 @@ impl Member {
     }
 
     // Enters what is read of a register.
-    pub(crate) fn read(
-        &mut self,
-        at: MemberRegister,
-        month: Month,
-        day: Day,
-        value: u32,
-        next: u32,
-    ) -> Result<(), BookRefusal>
-        ensures { Follows (on_register at (read month day value next) self.old) self.old result self.new }
+    pub(crate) fn read(&mut self, month: Month, reading: MeterReading) -> Result<(), BookRefusal>
+        ensures { Follows
+            (on_register reading.register (read month reading.day reading.value reading.start) self.old)
+            self.old result self.new }
     {
-        let register = self.register_at(at).read(month, day, value, next)?;
-        self.set_register(at, register);
+        let register = self.register_at(reading.register).read(month, reading)?;
+        self.set_register(reading.register, register);
         Ok(())
     }
 

@@ -1,9 +1,10 @@
 //! The registers of a member, and what is read of them.
 ghost use Rattle.std.specs.Prelude.{◌≡◌, ◌≤◌};
-ghost use Rattle.group.specs.Registers.{corrected, counted, opened_register, quantity, read, tally_with};
+ghost use Rattle.group.specs.Registers.{corrected, counted, most_standing, opened_register, quantity, read, tally_with};
 
 use crate::refusal::BookRefusal;
 use calendar::days::{Day, Month, is_in};
+use ledger::entry::MemberRegister;
 
 /// The largest value of a register, in kWh.
 pub const MOST_STANDING: u32 = 9_999_999;
@@ -19,6 +20,19 @@ pub struct Register {
     pub tally: i32,
 }
 
+/// What is read of a register on a day.
+#[derive(Clone, Copy, PartialEq, Eq, Debug)]
+pub struct MeterReading {
+    /// The register that is read.
+    pub register: MemberRegister,
+    /// The day on which it is read.
+    pub day: Day,
+    /// What it stands at, in kWh.
+    pub value: u32,
+    /// What it goes on from, in kWh: the same value, or the start value of a new meter.
+    pub start: u32,
+}
+
 impl Register {
     /// A register as it opens.
     pub fn opened(standing: u32) -> Register
@@ -27,35 +41,29 @@ impl Register {
         Register { standing, tally: 0 }
     }
 
-    // The register after a value is read of it on a day of the open month, from which on it stands at the next one.
-    pub(crate) fn read(
-        self,
-        month: Month,
-        day: Day,
-        value: u32,
-        next: u32,
-    ) -> Result<Register, BookRefusal>
-        ensures { result ≡ read month day value next self }
+    // The register after it is read in the open month, which from then on stands at the start value.
+    pub(crate) fn read(self, month: Month, reading: MeterReading) -> Result<Register, BookRefusal>
+        ensures { result ≡ read month reading.day reading.value reading.start self }
     {
-        if !is_in(day, month) {
+        if !is_in(reading.day, month) {
             return Err(BookRefusal::Day);
         }
-        if value > MOST_STANDING || next > MOST_STANDING {
+        if reading.value > MOST_STANDING || reading.start > MOST_STANDING {
             return Err(BookRefusal::Value);
         }
-        self.counted(value, next)
+        self.counted(reading.value, reading.start)
     }
 
     // The register with the quantity of a value in its tally.
     #[tactic(auto, using(crate::proofs::Quantities::quantity_within))]
-    fn counted(self, value: u32, next: u32) -> Result<Register, BookRefusal>
-        requires { value ≤ 9999999 }
-        ensures { result ≡ counted value next self }
+    fn counted(self, value: u32, start: u32) -> Result<Register, BookRefusal>
+        requires { value ≤ most_standing }
+        ensures { result ≡ counted value start self }
     {
         let kwh = quantity(self.standing, value).ok_or(BookRefusal::Below)?;
         let tally = tally_with(self.tally, kwh as i32)?;
         Ok(Register {
-            standing: next,
+            standing: start,
             tally,
         })
     }

@@ -1,6 +1,7 @@
-use Rattle.std.proofs.Common.{Ok, subst, arith, rules}
+use Rattle.std.proofs.Common.{◌≡◌, Ok, subst, arith, rules}
 use Rattle.std.proofs.lemmas.Grind.{common_steps}
 use Rattle.group.specs.declared.group.Group.{Group}
+use Rattle.group.specs.declared.group.Phase.TheVariants.{YearEnd}
 use Rattle.group.proofs.YearsSound.{year_sound}
 use Rattle.group.specs.Sound.{Sound}
 use Rattle.balance.proofs.Theorem.{moved_goes_on, quiet_goes_on}
@@ -16,8 +17,10 @@ invariant_of-self g c =
     let prices = g.T.Tariff.price tariff in
     let december = c.in_ok-december.december in
     let is = closed_is prices december group c.post_year.new.group c.year_end.result.1 c.post_year.ensures c.year_end.ensures.holder in
+    let same : c.args.self.now.group ≡ group = grind (arith, common_steps) in
+    let ended : group.phase ≡ YearEnd december = subst (λ (g : Group). g.phase ≡ YearEnd december) same c.in_ok-december.ensures.phase in
     let P : Group → Type 0 = λ g. Sound g in
-    subst P is (year_sound prices december (g.met.T.Tariff.bounded tariff december) group c.self.invariant c.in_ok-december.ensures.ended)
+    subst P is (year_sound prices december (g.met.T.Tariff.bounded tariff december) group c.self.invariant ended)
 
 pub returns-in_err-december-clause-balance : goal.returns-in_err-december-clause-balance
 returns-in_err-december-clause-balance g c = quiet_goes_on g.R.SharingRule.sharing g.T.Tariff.price g.met.R.SharingRule.fair c.args.self.now (Closing _) (search rules)
