@@ -11,7 +11,7 @@ use Rattle.ledger.specs.declared.bill.Bill.{Bill}
 use Rattle.lines.specs.declared.line.Line.{Line}
 use Rattle.lines.specs.declared.line.Line.TheVariants.{Enter, Issue, Year}
 use Rattle.lines.specs.declared.refusal.ReadRefusal.{ReadRefusal}
-use Rattle.output.specs.Lines.{year_line}
+use Rattle.settlement.specs.Output.{year_line}
 use Rattle.steps.specs.Drafts.{Stamp, drawn, issued}
 use Rattle.steps.specs.Entries.{after_entry}
 use Rattle.steps.specs.Months.{Prices, Share}

@@ -7,8 +7,9 @@ use Rattle.journal.specs.Lines.{LineRead}
 use Rattle.lines.specs.Names.{journal_names}
 use Rattle.lines.specs.declared.line.Line.{Line}
 use Rattle.lines.specs.declared.refusal.ReadRefusal.{ReadRefusal}
-use Rattle.output.specs.Lines.{output_names}
+use Rattle.settlement.specs.Output.{output_names}
 use Rattle.steps.specs.Months.{Prices, Share}
+use Rattle.settlement.specs.Faults.{fault_at}
 use Rattle.settlement.specs.Steps.{after_reading, output_room}
 use Rattle.settlement.specs.Texts.{text_lines}
 use Rattle.settlement.specs.declared.fault.RunFault.{RunFault}
@@ -29,7 +30,7 @@ ended group = record { text = []; group = group; fault = None }
 -- it stops at a line
 abbrev pub stopped : (number : ℕ) → RunRefusal → Group → Ran
 stopped number refusal group =
-    record { text = []; group = group; fault = Some (record { line = number; refusal = refusal }) }
+    record { text = []; group = group; fault = Some (fault_at number refusal) }
 
 -- a text before what it comes to
 abbrev pub after_text : List ℕ → Ran → Ran
@@ -76,10 +77,14 @@ abbrev pub JournalDone : Share → (ℕ → Prices) → (journal : List ℕ) →
 JournalDone share prices journal old answer new =
     (ran : Ran) × RunsOver share prices journal (length old.0) old.1 ran × RunDone ran 0 old answer new
 
+-- why line 1 is refused: it begins no journal, or the output is too short
+abbrev pub NotBegun : (journal : List ℕ) → (room : ℕ) → RunRefusal → Type 0
+NotBegun journal room refused.Journal = (body : List ℕ) → IsJournal journal body → ⊥
+NotBegun journal room refused.Room = (body : List ℕ) × IsJournal journal body × (room < output_room)
+NotBegun journal room (refused.Line refusal) = ⊥
+NotBegun journal room (refused.Book refusal) = ⊥
+
 -- line 1 is gone through: its body, and the place after the line of names that stands in the output; or it is refused
-abbrev pub Begun : (journal old : List ℕ) → Result (Bor (List ℕ) × ℕ) RunRefusal → (new : List ℕ) → Type 0
+abbrev pub Begun : (journal old : List ℕ) → Result (Bor (List ℕ) × ℕ) RunFault → (new : List ℕ) → Type 0
 Begun journal old (Ok begun) new = IsJournal journal begun.0.now × (output_room ≤ length old) × Put old 0 output_names new begun.1
-Begun journal old (Err refused.Journal) new = ((body : List ℕ) → IsJournal journal body → ⊥) × (new ≡ old)
-Begun journal old (Err refused.Room) new = (body : List ℕ) × IsJournal journal body × (length old < output_room) × (new ≡ old)
-Begun journal old (Err (refused.Line refusal)) new = ⊥
-Begun journal old (Err (refused.Book refusal)) new = ⊥
+Begun journal old (Err fault) new = NotBegun journal (length old) fault.refusal × (fault ≡ fault_at 0 fault.refusal) × (new ≡ old)

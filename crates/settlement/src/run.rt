@@ -5,12 +5,12 @@ ghost use Rattle.settlement.specs.Runs.{Begun, BodyDone, JournalDone};
 ghost use Rattle.settlement.specs.Texts.{NextLine};
 ghost use Rattle.steps.specs.Books.{SameTerms};
 
-use crate::fault::{RunFault, RunRefusal};
+use crate::fault::{NO_LINE, RunFault, RunRefusal};
+use crate::output::write_names;
 use crate::step::{check_room, run_line};
 use book::book::Book;
 use fields::marks::next_line_feed;
 use lines::names::after_names;
-use output::lines::write_names;
 use sharing::rule::SharingRule;
 use tariff::tariff::Tariff;
 
@@ -39,22 +39,22 @@ pub fn run<R: SharingRule, T: Tariff>(
 {
     match begin(journal, out) {
         Ok((body, at)) => run_body(book, body, out, at),
-        Err(refusal) => Outcome {
+        Err(fault) => Outcome {
             written: 0,
-            fault: Some(RunFault { line: 1, refusal }),
+            fault: Some(RunFault { line: 1, ..fault }),
         },
     }
 }
 
 // Goes through line 1: the text behind it, and the place behind the line of names of the output.
-fn begin<'a>(journal: &'a [u8], out: &mut [u8]) -> Result<(&'a [u8], usize), RunRefusal>
+fn begin<'a>(journal: &'a [u8], out: &mut [u8]) -> Result<(&'a [u8], usize), RunFault>
     ensures { Begun journal.now out.old result out.new }
 {
     if journal.len() > MOST_JOURNAL {
-        return Err(RunRefusal::Journal);
+        return Err(RunFault::new(NO_LINE, RunRefusal::Journal));
     }
     let Some(body) = after_names(journal) else {
-        return Err(RunRefusal::Journal);
+        return Err(RunFault::new(NO_LINE, RunRefusal::Journal));
     };
     check_room(out.len())?;
     let Ok(at) = write_names(out, 0) else {
@@ -96,10 +96,10 @@ fn run_body<R: SharingRule, T: Tariff>(
         number += 1;
         match run_line(book, line, number, out, written) {
             Ok(end) => written = end,
-            Err(refusal) => {
+            Err(fault) => {
                 let fault = Some(RunFault {
                     line: number,
-                    refusal,
+                    ..fault
                 });
                 return Outcome { written, fault };
             }

@@ -10,7 +10,7 @@ returns-in-Ok-clause-outcome g c =
     goes_on_after_1 _ _ _ _ _ _ _ _ _ _ _ begins room names (grind (arith, common_steps)) c.run_body.ensures.done
 
 pub returns-in-Err-clause-outcome : goal.returns-in-Err-clause-outcome
-returns-in-Err-clause-outcome g c = stops_at_1 _ _ _ _ _ _ c.in-Err.refusal c.in-Err.ensures
+returns-in-Err-clause-outcome g c = stops_at_1 _ _ _ _ _ _ c.in-Err.fault c.in-Err.ensures
 
 pub returns-in-Ok-clause-balance : goal.returns-in-Ok-clause-balance
 returns-in-Ok-clause-balance g c =
