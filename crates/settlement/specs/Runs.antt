@@ -63,7 +63,7 @@ pub data RunsOver (share : Share) (prices : ℕ → Prices) (journal : List ℕ)
 
 -- what a run comes to is answered and done: the fault is told, the text stands in the output from a place on, the place
 -- after it is told, and the group is the one that the run comes to
-abbrev RunDone : Ran → (at : ℕ) → (old : List ℕ × Group) → Outcome → (new : List ℕ × Group) → Type 0
+abbrev pub RunDone : Ran → (at : ℕ) → (old : List ℕ × Group) → Outcome → (new : List ℕ × Group) → Type 0
 RunDone ran at old answer new =
     (answer.fault ≡ ran.fault) × Put old.0 at ran.text new.0 answer.written × (new.1 ≡ ran.group)
 

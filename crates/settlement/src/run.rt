@@ -35,7 +35,8 @@ pub fn run<R: SharingRule, T: Tariff>(
     ensures outcome { JournalDone (R.SharingRule.sharing book.old.rule) (T.Tariff.price book.old.tariff)
         journal.now (out.old, book.old.group) result (out.new, book.new.group) }
     ensures terms { SameTerms book.old book.new }
-    ensures balance { LeadsOnBalanced R.SharingRule.sharing T.Tariff.price journal.now book.old book.new }
+    ensures balance { LeadsOnBalanced R.SharingRule.sharing T.Tariff.price
+        journal.now (out.old, book.old) result (out.new, book.new) }
 {
     match begin(journal, out) {
         Ok((body, at)) => run_body(book, body, out, at),
