@@ -1,11 +1,14 @@
 //! The lines of the output and of a fault, and the lines of names.
 use crate::slices::{BLANK, check_written};
-use journal::names::after_names;
+use group::refusal::BookRefusal;
 use ledger::bill::{Bill, YearEnd};
 use ledger::zone::ByZone;
-use output::fault::{Fault, Layer, write_fault};
-use output::lines::{write_figures, write_names};
-use output::refusal::OutputRefusal;
+use journal::names::after_names;
+use journal::refusal::ReadRefusal;
+use settlement::fault::{Layer, RunFault, RunRefusal};
+use settlement::fault_line::write_fault;
+use settlement::output::{write_figures, write_names};
+use settlement::refusal::OutputRefusal;
 use std::process::Abort;
 use std::test::Fail;
 
@@ -144,33 +147,33 @@ fn year_ends_are_written(rt: HostRuntime) -> Result<(), Fail> {
     Ok(())
 }
 
-const FAULTS: [(Fault, &[u8]); 3] = [
+const FAULTS: [(RunFault, &[u8]); 3] = [
     (
-        Fault {
+        RunFault {
             line: 7,
             field: Some(5),
             layer: Layer::Text,
-            number: 26,
+            refusal: RunRefusal::Line(ReadRefusal::Form { field: 5 }),
         },
         b"FAULT,7,5,TEXT,26\n",
     ),
     (
-        Fault {
+        RunFault {
             line: 1,
             field: None,
             layer: Layer::Book,
-            number: 9,
+            refusal: RunRefusal::Book(BookRefusal::Count),
         },
-        b"FAULT,1,0,BOOK,9\n",
+        b"FAULT,1,0,BOOK,2\n",
     ),
     (
-        Fault {
+        RunFault {
             line: usize::MAX,
             field: Some(usize::MAX),
             layer: Layer::Text,
-            number: u8::MAX,
+            refusal: RunRefusal::Room,
         },
-        b"FAULT,18446744073709551615,18446744073709551615,TEXT,255\n",
+        b"FAULT,18446744073709551615,18446744073709551615,TEXT,27\n",
     ),
 ];
 

@@ -7,7 +7,7 @@ use Rattle.std.specs.List.{concat}
 use Rattle.cells.proofs.Overwriting.{put_as, put_more}
 use Rattle.cells.specs.Cells.{Put, overwritten}
 use Rattle.ledger.specs.declared.bill.Bill.{Bill}
-use Rattle.output.specs.Lines.{bill_line}
+use Rattle.settlement.specs.Output.{bill_line}
 use Rattle.group.proofs.Lists.{by_place_next}
 use Rattle.group.specs.Months.{by_place}
 use Rattle.settlement.specs.Texts.{bills_text}

@@ -8,10 +8,12 @@ use Rattle.journal.specs.Lines.{LineRead}
 use Rattle.journal.specs.declared.line.Line.{Line}
 use Rattle.journal.specs.declared.refusal.ReadRefusal.{ReadRefusal}
 use Rattle.group.specs.Months.{Prices, Share}
+use Rattle.settlement.proofs.Beginning.{told_at}
 use Rattle.settlement.proofs.Billing.{put_none}
 use Rattle.settlement.specs.Runs.{BodyDone, GoesOn, LinesRun, Ran, after_text, ended, stopped}
 use Rattle.settlement.specs.Steps.{TextDone, after_reading}
 use Rattle.settlement.specs.Texts.{text_lines}
+use Rattle.settlement.specs.declared.fault.RunFault.{RunFault}
 use Rattle.settlement.specs.declared.fault.RunRefusal.{RunRefusal}
 
 pub record Going (share : Share) (prices : ℕ → Prices) (body : List ℕ) (at : ℕ) (old : List ℕ) (start : Group) (written number : ℕ) (rest out : List ℕ) (group : Group) : Type 0 where
@@ -57,11 +59,12 @@ module _ (share : Share) (prices : ℕ → Prices) (body : List ℕ) (at : ℕ) 
       (subst (λ r. LinesRun share prices (length out - written) (number + 1) (text_lines r) group (ended group)) (sym none) refl)
 
   -- the next line is refused
-  pub going_stops : (line after : List ℕ) (refusal : RunRefusal) (new_out : List ℕ) (new : Group) → text_lines rest ≡ line ∷ text_lines after → TextDone share prices line written (out, group) (Err refusal) (new_out, new) → BodyDone share prices body at (old, start) (record { written = written; fault = Some (record { line = number + 1; refusal = refusal }) }) (new_out, new)
-  going_stops line after refusal new_out new lines (reading, read, (is, same)) =
-      subst (λ (pair : List ℕ × Group). BodyDone share prices body at (old, start) (record { written = written; fault = Some (record { line = number + 1; refusal = refusal }) }) pair) (sym same)
-      (goes_to (stopped (number + 1) refusal group) refl
-      (run_next line after reading (Err refusal) (stopped (number + 1) refusal group) lines read is refl))
+  pub going_stops : (line after : List ℕ) (fault : RunFault) (new_out : List ℕ) (new : Group) → text_lines rest ≡ line ∷ text_lines after → TextDone share prices line written (out, group) (Err fault) (new_out, new) → BodyDone share prices body at (old, start) (record { written = written; fault = Some (record fault { line = number + 1 }) }) (new_out, new)
+  going_stops line after fault new_out new lines (reading, read, ((refuses, is), same)) =
+      subst (λ (pair : List ℕ × Group). BodyDone share prices body at (old, start) (record { written = written; fault = Some (record fault { line = number + 1 }) }) pair) (sym same)
+      (subst (λ (f : RunFault). BodyDone share prices body at (old, start) (record { written = written; fault = Some f }) (out, group)) (sym (told_at (number + 1) fault is))
+      (goes_to (stopped (number + 1) fault.refusal group) refl
+      (run_next line after reading (Err fault.refusal) (stopped (number + 1) fault.refusal group) lines read refuses refl)))
 
   -- the next line is done
   pub going_on : (line after : List ℕ) (end : ℕ) (new_out : List ℕ) (new : Group) → text_lines rest ≡ line ∷ text_lines after → rest ≡ line ++ after → 0 < length line → length new_out ≡ length out → end ≤ length new_out → TextDone share prices line written (out, group) (Ok end) (new_out, new) → Going share prices body at old start end (number + 1) after new_out new

@@ -1,16 +1,24 @@
 -- The accepted lines of a journal make calls on the book, so a history with these leads to what a run comes to.
-use Rattle.std.proofs.Common.{◌≡◌, ◌∙◌, ℕ, List, [], ◌∷◌, ◌++◌, Ok, inl, inr, ◌⊎◌, append_assoc, refl, sym, ap, subst}
+use Rattle.std.proofs.Common.{◌≡◌, ◌∙◌, ℕ, List, [], ◌∷◌, ◌++◌, length, Ok, Option, inl, inr, ⊎_elim, append_assoc, refl, sym, ap, subst}
+use Rattle.std.specs.Prelude.{IsSomeAnd}
+use Rattle.std.specs.List.{concat}
 use Rattle.balance.proofs.Theorem.{throughout}
 use Rattle.balance.specs.Histories.{Event, Closing, Drawing, Entering, Issuing, Leads}
 use Rattle.group.specs.declared.group.Group.{Group}
 use Rattle.journal.specs.declared.line.Line.{Line}
 use Rattle.group.specs.Books.{BookState, SameTerms}
 use Rattle.group.specs.Months.{Keeps, Prices, Share}
+use Rattle.cells.proofs.Overwriting.{put_as}
+use Rattle.settlement.proofs.Billing.{put_none}
 use Rattle.settlement.proofs.Order.{output_in_order}
 use Rattle.settlement.specs.Accepting.{Accepted, a_closing, an_entry, an_issue, none}
-use Rattle.settlement.specs.Laws.{BodyInOrder, StopsAt1}
-use Rattle.settlement.specs.Leading.{FirstOf, LeadsOnBalanced}
-use Rattle.settlement.specs.Runs.{Ran, RunsOver}
+use Rattle.settlement.specs.Laws.{BodyInOrder, StopsAt1, StopsBehind}
+use Rattle.settlement.specs.Leading.{AcceptsLines, LeadsOnBalanced}
+use Rattle.settlement.specs.Output.{output_names}
+use Rattle.settlement.specs.Runs.{JournalDone, Ran, RunDone}
+use Rattle.settlement.specs.Texts.{text_lines}
+use Rattle.settlement.specs.declared.fault.RunFault.{RunFault}
+use Rattle.settlement.specs.declared.run.Outcome.{Outcome}
 
 -- a history leads with the calls of accepted lines to the group after them
 accepted_leads : (share : Share) (prices : ℕ → Prices) (lines : List Line) (group : Group) (texts : List (List ℕ)) (calls : List Event) (after : Group) → Accepted share prices lines group texts calls after → (history : List Event) → Leads share prices history group → Leads share prices (calls ++ history) after
@@ -25,32 +33,62 @@ accepted_leads share prices lines group texts calls after (a_closing december fi
     subst (λ (h : List Event). Leads share prices h after) (sym (append_assoc later (Closing (Ok figures) ∷ []) history))
     (accepted_leads share prices rest new more_texts later after more (Closing (Ok figures) ∷ history) (group, leads, closes))
 
--- lines that are accepted lead from one book to another
-lead : {R T : Type 0} (share : R → Share) (prices : T → ℕ → Prices) → ((rule : R) → Keeps (share rule)) → (old new : BookState R T) (journal : List ℕ) (lines : List Line) (texts : List (List ℕ)) (calls : List Event) → SameTerms old new → FirstOf journal lines → Accepted (share old.rule) (prices old.tariff) lines old.group texts calls new.group → LeadsOnBalanced share prices journal old new
-lead {R} {T} share prices keeps old new journal lines texts calls same first taken = record {
-  lines = lines;
-  texts = texts;
-  calls = calls;
-  first = first;
-  accepted = taken;
-  balanced = λ history leads.
-      let there = accepted_leads (share old.rule) (prices old.tariff) lines old.group texts calls new.group taken history leads in
-      let by_rule = subst (λ (r : R). Leads (share r) (prices old.tariff) (calls ++ history) new.group) (sym same.rule) there in
-      let to_new = subst (λ (t : T). Leads (share new.rule) (prices t) (calls ++ history) new.group) (sym same.tariff) by_rule in
-      (to_new, throughout (share new.rule) (keeps new.rule) (prices new.tariff) (calls ++ history) new.group to_new);
-}
+-- what a run did, where it stopped at line 1
+accepts_nothing : (share : Share) (prices : ℕ → Prices) (journal : List ℕ) (old new : List ℕ × Group) (answer : Outcome) (ran : Ran) → RunDone ran 0 old answer new → StopsAt1 old.1 ran → AcceptsLines share prices journal old answer new
+accepts_nothing share prices journal old new answer ran (fault, put, is) stops =
+    let nothing = put_as stops.text put in
+    record {
+      lines = [];
+      texts = [];
+      calls = [];
+      accepted = subst (λ (g : Group). Accepted share prices [] old.1 [] [] g) (sym (is ∙ stops.after)) (none old.1);
+      written = inl
+          (record {
+            none = refl;
+            fault = subst (λ (f : Option RunFault). IsSomeAnd f (λ at. at.line ≡ 1)) (sym fault) stops.fault;
+            written = nothing.stop;
+            output = nothing.held ∙ sym (put_none old.0 0).held;
+          });
+    }
 
--- so a run does
-pub run_leads_on : {R T : Type 0} (share : R → Share) (prices : T → ℕ → Prices) → ((rule : R) → Keeps (share rule)) → (old new : BookState R T) (journal : List ℕ) (room : ℕ) (ran : Ran) → SameTerms old new → RunsOver (share old.rule) (prices old.tariff) journal room old.group ran → new.group ≡ ran.group → LeadsOnBalanced share prices journal old new
-run_leads_on share prices keeps old new journal room ran same over is =
-    go (output_in_order (share old.rule) (prices old.tariff) journal room old.group ran over)
-  where
-    go : StopsAt1 old.group ran ⊎ BodyInOrder (share old.rule) (prices old.tariff) journal old.group ran → LeadsOnBalanced share prices journal old new
-    go (inl stops) =
-        lead share prices keeps old new journal [] [] [] same (inl refl)
-        (subst (λ (g : Group). Accepted (share old.rule) (prices old.tariff) [] old.group [] [] g) (sym (is ∙ stops.after)) (none old.group))
-    go (inr found) =
-        let order = found.order in
-        let there : found.rest.group ≡ new.group = sym (is ∙ ap (λ (r : Ran). r.group) found.names) in
-        lead share prices keeps old new journal order.accepted order.texts order.calls same (inr (found.body, found.begins, order.read))
-        (subst (λ (g : Group). Accepted (share old.rule) (prices old.tariff) order.accepted old.group order.texts order.calls g) there order.taken)
+-- and where it went behind it
+accepts_first : (share : Share) (prices : ℕ → Prices) (journal : List ℕ) (old new : List ℕ × Group) (answer : Outcome) (ran : Ran) → RunDone ran 0 old answer new → BodyInOrder share prices journal old.1 ran → AcceptsLines share prices journal old answer new
+accepts_first share prices journal old new answer ran (fault, put, is) found =
+    let order = found.order in
+    let there : found.rest.group ≡ new.1 = sym (is ∙ ap (λ (r : Ran). r.group) found.names) in
+    let text : ran.text ≡ output_names ++ concat order.texts = ap (λ (r : Ran). r.text) found.names ∙ ap (λ t. output_names ++ t) order.output in
+    let stops : found.rest.fault ≡ answer.fault = sym (fault ∙ ap (λ (r : Ran). r.fault) found.names) in
+    record {
+      lines = order.accepted;
+      texts = order.texts;
+      calls = order.calls;
+      accepted = subst (λ (g : Group). Accepted share prices order.accepted old.1 order.texts order.calls g) there order.taken;
+      written = inr
+          (record {
+            body = found.body;
+            begins = found.begins;
+            read = order.read;
+            stop = subst (λ (f : Option RunFault). StopsBehind 2 (length order.accepted) (length (text_lines found.body)) f) stops order.stop;
+            output = put_as text put;
+          });
+    }
+
+accepts : (share : Share) (prices : ℕ → Prices) (journal : List ℕ) (old new : List ℕ × Group) (answer : Outcome) → JournalDone share prices journal old answer new → AcceptsLines share prices journal old answer new
+accepts share prices journal old new answer (ran, over, done) =
+    ⊎_elim
+    (λ stops. accepts_nothing share prices journal old new answer ran done stops)
+    (λ found. accepts_first share prices journal old new answer ran done found)
+    (output_in_order share prices journal (length old.0) old.1 ran over)
+
+-- a run leads on
+pub run_leads_on : {R T : Type 0} (share : R → Share) (prices : T → ℕ → Prices) → ((rule : R) → Keeps (share rule)) → (journal : List ℕ) (old new : List ℕ × BookState R T) (answer : Outcome) → SameTerms old.1 new.1 → JournalDone (share old.1.rule) (prices old.1.tariff) journal (old.0, old.1.group) answer (new.0, new.1.group) → LeadsOnBalanced share prices journal old answer new
+run_leads_on {R} {T} share prices keeps journal old new answer same done =
+    let order = accepts (share old.1.rule) (prices old.1.tariff) journal (old.0, old.1.group) (new.0, new.1.group) answer done in
+    record {
+      order = order;
+      balanced = λ history leads.
+          let there = accepted_leads (share old.1.rule) (prices old.1.tariff) order.lines old.1.group order.texts order.calls new.1.group order.accepted history leads in
+          let by_rule = subst (λ (r : R). Leads (share r) (prices old.1.tariff) (order.calls ++ history) new.1.group) (sym same.rule) there in
+          let to_new = subst (λ (t : T). Leads (share new.1.rule) (prices t) (order.calls ++ history) new.1.group) (sym same.tariff) by_rule in
+          (to_new, throughout (share new.1.rule) (keeps new.1.rule) (prices new.1.tariff) (order.calls ++ history) new.1.group to_new);
+    }

@@ -1,4 +1,5 @@
 mod Billing
+mod Lengths
 mod Stepping
 mod Lining
 mod Going

@@ -10,9 +10,10 @@ use Rattle.journal.specs.Lines.{LineRead, kind_of, others}
 use Rattle.journal.specs.Words.{kind_word}
 use Rattle.journal.specs.Names.{journal_names}
 use Rattle.journal.specs.declared.line.Line.{Line}
-use Rattle.output.specs.Lines.{output_names}
+use Rattle.settlement.specs.Output.{output_names}
 use Rattle.group.specs.Months.{Prices, Share}
 use Rattle.settlement.specs.Laws.{JournalsGoOn, RunsGoOn, RunsStop}
+use Rattle.settlement.specs.Faults.{fault_at}
 use Rattle.settlement.specs.Runs.{GoesOn, LinesRun, Ran, after_text, no_journal, no_room, runs}
 use Rattle.settlement.specs.Steps.{after_reading}
 use Rattle.settlement.specs.Texts.{text_lines, onto_first}
@@ -29,7 +30,7 @@ further number group (Ok done) Rest Longer ran later (first, rest, comes) ends o
       ∙ ap (λ t. let whole : Ran = record later { text = t } in whole) (append_assoc done.0 first.text later.text),
 )
 further number group (Err refusal) Rest Longer ran later stops ends on =
-    let never : ◌≡◌ {A = Option RunFault} (Some (record { line = number; refusal = refusal })) None = ap (λ (r : Ran). r.fault) (sym stops) ∙ ends in
+    let never : ◌≡◌ {A = Option RunFault} (Some (fault_at number refusal)) None = ap (λ (r : Ran). r.fault) (sym stops) ∙ ends in
     absurd cc
 
 go_on : (share : Share) (prices : ℕ → Prices) (lines more : List (List ℕ)) (room first : ℕ) (group : Group) (ran later : Ran) → LinesRun share prices room first lines group ran → ran.fault ≡ None → LinesRun share prices (room - length ran.text) (first + length lines) more ran.group later → LinesRun share prices room first (lines ++ more) group (after_text ran.text later)
@@ -88,7 +89,7 @@ read_whole bs line (writable, is) = (row (kind_word (kind_of line) ∷ others li
 went_on : (number : ℕ) (group : Group) (step : Result (List ℕ × Group) RunRefusal) (Rest : List ℕ → Group → Ran → Type 0) (ran : Ran) (X : Type 0) → GoesOn number group step Rest ran → ran.fault ≡ None → ((text : List ℕ) (new : Group) (first : Ran) → ran ≡ after_text text first → Rest text new first → X) → X
 went_on number group (Ok done) Rest ran X (first, rest, comes) ends on = on done.0 done.1 first comes rest
 went_on number group (Err refusal) Rest ran X stops ends on =
-    let never : ◌≡◌ {A = Option RunFault} (Some (record { line = number; refusal = refusal })) None = ap (λ (r : Ran). r.fault) (sym stops) ∙ ends in
+    let never : ◌≡◌ {A = Option RunFault} (Some (fault_at number refusal)) None = ap (λ (r : Ran). r.fault) (sym stops) ∙ ends in
     absurd cc
 
 -- lines that are run to their end have their line feeds
@@ -101,7 +102,7 @@ gone_through share prices (bs ∷ lines) room first group ran (Ok line, read, go
     (λ text new rest comes run_rest.
     gone_through share prices lines (room - length text) (first + 1) new rest run_rest (sym (ap (λ (r : Ran). r.fault) comes) ∙ ends)))
 gone_through share prices (bs ∷ lines) room first group ran (Err refusal, read, stops) ends =
-    let never : ◌≡◌ {A = Option RunFault} (Some (record { line = first; refusal = refused.Line refusal })) None = ap (λ (r : Ran). r.fault) (sym stops) ∙ ends in
+    let never : ◌≡◌ {A = Option RunFault} (Some (fault_at first (refused.Line refusal))) None = ap (λ (r : Ran). r.fault) (sym stops) ∙ ends in
     absurd cc
 
 -- the front of a line that has its line feed is no line feed, so what follows it has it

@@ -6,7 +6,7 @@ use Rattle.journal.proofs.Forms.{one_answer}
 use Rattle.journal.specs.Names.{journal_names}
 use Rattle.journal.specs.declared.line.Line.{Line}
 use Rattle.journal.specs.declared.refusal.ReadRefusal.{ReadRefusal}
-use Rattle.output.specs.Lines.{output_names}
+use Rattle.settlement.specs.Output.{output_names}
 use Rattle.group.specs.Months.{Prices, Share}
 use Rattle.settlement.specs.Laws.{OneOutcome}
 use Rattle.settlement.specs.Runs.{GoesOn, LinesRun, Ran, after_text, no_journal, no_room, runs}

@@ -16,7 +16,7 @@ use Rattle.ledger.specs.declared.entry.Entry.{Entry}
 use Rattle.journal.specs.declared.line.Line.{Line}
 use Rattle.journal.specs.declared.line.Line.TheVariants.{Enter, Issue, Year}
 use Rattle.journal.specs.declared.refusal.ReadRefusal.{ReadRefusal}
-use Rattle.output.specs.Lines.{year_line}
+use Rattle.settlement.specs.Output.{year_line}
 use Rattle.group.proofs.Lists.{length-by_place}
 use Rattle.group.specs.Drafts.{Stamp, after_drawing, after_issue, drawn, issued, overwritten}
 use Rattle.group.specs.Entries.{after_entry}

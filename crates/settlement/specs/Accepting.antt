@@ -10,7 +10,7 @@ use Rattle.ledger.specs.declared.bill.YearEnd.{YearEnd}
 use Rattle.ledger.specs.declared.entry.Entry.{Entry}
 use Rattle.journal.specs.declared.line.Line.{Line}
 use Rattle.journal.specs.declared.line.Line.TheVariants.{Enter, Issue, Year}
-use Rattle.output.specs.Lines.{year_line}
+use Rattle.settlement.specs.Output.{year_line}
 use Rattle.group.specs.Drafts.{Stamp, drawn, issued}
 use Rattle.group.specs.Entries.{after_entry}
 use Rattle.group.specs.Months.{Prices, Share}

@@ -1,14 +1,18 @@
--- Where and why a run stops: the number, the field and the layer of each refusal.
-use Rattle.std.specs.Prelude.{ℕ, None, Option, Some}
+-- Where and why a run stops: the number, the field and the layer of each refusal, and the line that tells a fault.
+use Rattle.std.specs.Prelude.{◌≡◌, ℕ, ◌<◌, ◌≤◌, List, [], ◌∷◌, length, None, Option, Some, Ok, Err, codes, decimal, Result}
+use Rattle.std.specs.Option.{unwrap_or}
+use Rattle.cells.specs.Cells.{overwritten}
+use Rattle.fields.specs.Rows.{line_of}
 use Rattle.group.specs.Refusals.{number_of as book_number}
 use Rattle.journal.specs.Refusals.{read_number}
 use Rattle.journal.specs.declared.refusal.ReadRefusal.TheVariants.{Fields, Form}
-use Rattle.output.specs.declared.fault.Fault.{Fault}
-use Rattle.output.specs.declared.fault.Layer.{Layer}
-use Rattle.output.specs.declared.fault.Layer.TheVariants as layers
+use Rattle.settlement.specs.declared.fault.Layer.{Layer}
+use Rattle.settlement.specs.declared.fault.Layer.TheVariants as layers
 use Rattle.settlement.specs.declared.fault.RunFault.{RunFault}
 use Rattle.settlement.specs.declared.fault.RunRefusal.{RunRefusal}
 use Rattle.settlement.specs.declared.fault.RunRefusal.TheVariants.{Journal, Line, Book, Room}
+use Rattle.settlement.specs.declared.refusal.OutputRefusal.{OutputRefusal}
+use Rattle.settlement.specs.declared.refusal.OutputRefusal.TheVariants as output
 
 -- the number of a refusal
 abbrev pub number_of : RunRefusal → ℕ
@@ -32,11 +36,25 @@ layer_of (Line refusal) = layers.Text
 layer_of (Book refusal) = layers.Book
 layer_of Room = layers.Text
 
--- a fault as its line tells it
-abbrev pub fault_of : RunFault → Fault
-fault_of fault = record {
-  line = fault.line;
-  field = field_of fault.refusal;
-  layer = layer_of fault.refusal;
-  number = number_of fault.refusal;
-}
+-- the fault of a refusal at a line
+abbrev pub fault_at : (line : ℕ) → RunRefusal → RunFault
+fault_at line refusal =
+    record { line = line; field = field_of refusal; layer = layer_of refusal; refusal = refusal }
+
+-- the word of a layer
+abbrev pub layer_word : Layer → List ℕ
+layer_word layers.Book = codes "BOOK"
+layer_word layers.Text = codes "TEXT"
+
+-- where and why a run stopped, with 0 for the field where none is meant
+abbrev pub fault_line : RunFault → List ℕ
+fault_line fault =
+    line_of
+    (codes "FAULT" ∷ decimal fault.line ∷ decimal (unwrap_or fault.field 0) ∷ layer_word fault.layer
+    ∷ decimal (number_of fault.refusal) ∷ [])
+
+-- what the writer of a fault answers and leaves: it refuses a slice under 64 bytes
+abbrev pub FaultWritten : RunFault → List ℕ → List ℕ → Result ℕ OutputRefusal → Type 0
+FaultWritten fault old new (Ok end) =
+    (64 ≤ length old) × (end ≡ length (fault_line fault)) × (new ≡ overwritten old 0 (fault_line fault))
+FaultWritten fault old new (Err output.Room) = (length old < 64) × (new ≡ old)

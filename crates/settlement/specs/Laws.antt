@@ -4,7 +4,7 @@ use Rattle.std.specs.List.{concat}
 use Rattle.balance.specs.Histories.{Event}
 use Rattle.group.specs.declared.group.Group.{Group}
 use Rattle.journal.specs.declared.line.Line.{Line}
-use Rattle.output.specs.Lines.{output_names}
+use Rattle.settlement.specs.Output.{output_names}
 use Rattle.group.specs.Months.{Prices, Share}
 use Rattle.settlement.specs.Accepting.{Accepted, ReadFirst}
 use Rattle.settlement.specs.Runs.{IsJournal, LinesRun, Ran, RunsOver, after_text}

@@ -2,6 +2,7 @@ pub mod Accepting
 pub mod Faults
 pub mod Laws
 pub mod Leading
+pub mod Output
 pub mod Runs
 pub mod Setups
 pub mod Steps

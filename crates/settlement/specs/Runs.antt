@@ -7,8 +7,9 @@ use Rattle.journal.specs.Lines.{LineRead}
 use Rattle.journal.specs.Names.{journal_names}
 use Rattle.journal.specs.declared.line.Line.{Line}
 use Rattle.journal.specs.declared.refusal.ReadRefusal.{ReadRefusal}
-use Rattle.output.specs.Lines.{output_names}
+use Rattle.settlement.specs.Output.{output_names}
 use Rattle.group.specs.Months.{Prices, Share}
+use Rattle.settlement.specs.Faults.{fault_at}
 use Rattle.settlement.specs.Steps.{after_reading, output_room}
 use Rattle.settlement.specs.Texts.{text_lines}
 use Rattle.settlement.specs.declared.fault.RunFault.{RunFault}
@@ -29,7 +30,7 @@ ended group = record { text = []; group = group; fault = None }
 -- it stops at a line
 abbrev pub stopped : (number : ℕ) → RunRefusal → Group → Ran
 stopped number refusal group =
-    record { text = []; group = group; fault = Some (record { line = number; refusal = refusal }) }
+    record { text = []; group = group; fault = Some (fault_at number refusal) }
 
 -- a text before what it comes to
 abbrev pub after_text : List ℕ → Ran → Ran
@@ -62,7 +63,7 @@ pub data RunsOver (share : Share) (prices : ℕ → Prices) (journal : List ℕ)
 
 -- what a run comes to is answered and done: the fault is told, the text stands in the output from a place on, the place
 -- after it is told, and the group is the one that the run comes to
-abbrev RunDone : Ran → (at : ℕ) → (old : List ℕ × Group) → Outcome → (new : List ℕ × Group) → Type 0
+abbrev pub RunDone : Ran → (at : ℕ) → (old : List ℕ × Group) → Outcome → (new : List ℕ × Group) → Type 0
 RunDone ran at old answer new =
     (answer.fault ≡ ran.fault) × Put old.0 at ran.text new.0 answer.written × (new.1 ≡ ran.group)
 
@@ -76,10 +77,14 @@ abbrev pub JournalDone : Share → (ℕ → Prices) → (journal : List ℕ) →
 JournalDone share prices journal old answer new =
     (ran : Ran) × RunsOver share prices journal (length old.0) old.1 ran × RunDone ran 0 old answer new
 
+-- why line 1 is refused: it begins no journal, or the output is too short
+abbrev pub NotBegun : (journal : List ℕ) → (room : ℕ) → RunRefusal → Type 0
+NotBegun journal room refused.Journal = (body : List ℕ) → IsJournal journal body → ⊥
+NotBegun journal room refused.Room = (body : List ℕ) × IsJournal journal body × (room < output_room)
+NotBegun journal room (refused.Line refusal) = ⊥
+NotBegun journal room (refused.Book refusal) = ⊥
+
 -- line 1 is gone through: its body, and the place after the line of names that stands in the output; or it is refused
-abbrev pub Begun : (journal old : List ℕ) → Result (Bor (List ℕ) × ℕ) RunRefusal → (new : List ℕ) → Type 0
+abbrev pub Begun : (journal old : List ℕ) → Result (Bor (List ℕ) × ℕ) RunFault → (new : List ℕ) → Type 0
 Begun journal old (Ok begun) new = IsJournal journal begun.0.now × (output_room ≤ length old) × Put old 0 output_names new begun.1
-Begun journal old (Err refused.Journal) new = ((body : List ℕ) → IsJournal journal body → ⊥) × (new ≡ old)
-Begun journal old (Err refused.Room) new = (body : List ℕ) × IsJournal journal body × (length old < output_room) × (new ≡ old)
-Begun journal old (Err (refused.Line refusal)) new = ⊥
-Begun journal old (Err (refused.Book refusal)) new = ⊥
+Begun journal old (Err fault) new = NotBegun journal (length old) fault.refusal × (fault ≡ fault_at 0 fault.refusal) × (new ≡ old)

@@ -8,12 +8,14 @@ use Rattle.journal.specs.Lines.{LineRead}
 use Rattle.journal.specs.declared.line.Line.{Line}
 use Rattle.journal.specs.declared.line.Line.TheVariants.{Enter, Issue, Year}
 use Rattle.journal.specs.declared.refusal.ReadRefusal.{ReadRefusal}
-use Rattle.output.specs.Lines.{year_line}
+use Rattle.settlement.specs.Output.{year_line}
 use Rattle.group.specs.Drafts.{drawn, issued}
 use Rattle.group.specs.Entries.{after_entry}
 use Rattle.group.specs.Months.{Prices, Share}
 use Rattle.group.specs.Years.{after_year, open_year, year_figures}
+use Rattle.settlement.specs.Faults.{fault_at}
 use Rattle.settlement.specs.Texts.{bills_text}
+use Rattle.settlement.specs.declared.fault.RunFault.{RunFault}
 use Rattle.settlement.specs.declared.fault.RunRefusal.{RunRefusal}
 use Rattle.settlement.specs.declared.fault.RunRefusal.TheVariants as refused
 
@@ -46,6 +48,15 @@ refused_as refusal_of (Err e) = Err (refusal_of e)
 abbrev pub room_checked : (room needed : ℕ) → Result (Unit {0}) RunRefusal
 room_checked room needed = if nat_lt room needed then Err refused.Room else Ok tt
 
+-- a fault, of no line yet, is that of why a step is refused
+abbrev pub RefusedBy : {A : Type 0} → Result A RunRefusal → RunFault → Type 0
+RefusedBy step fault = (step ≡ Err fault.refusal) × (fault ≡ fault_at 0 fault.refusal)
+
+-- what is answered on the room of the output
+abbrev pub RoomChecked : (room : ℕ) → Result (Unit {0}) RunFault → Type 0
+RoomChecked room (Ok done) = room_checked room output_room ≡ Ok tt
+RoomChecked room (Err fault) = RefusedBy (room_checked room output_room) fault
+
 -- what a line does: the book refuses it before the output does
 abbrev pub after_line : Share → (ℕ → Prices) → (room : ℕ) → Line → Group → Result (List ℕ × Group) RunRefusal
 after_line share prices room line group =
@@ -59,17 +70,17 @@ after_reading share prices room reading group =
 
 -- a step is done: its text stands in the output from a place on, and the group is that of the step; or the step is refused,
 -- and both are as they were
-abbrev StepDone : Result (List ℕ × Group) RunRefusal → (at : ℕ) → (old : List ℕ × Group) → Result ℕ RunRefusal → (new : List ℕ × Group) → Type 0
+abbrev StepDone : Result (List ℕ × Group) RunRefusal → (at : ℕ) → (old : List ℕ × Group) → Result ℕ RunFault → (new : List ℕ × Group) → Type 0
 StepDone step at old (Ok end) new = (text : List ℕ) × (step ≡ Ok (text, new.1)) × Put old.0 at text new.0 end
-StepDone step at old (Err refusal) new = (step ≡ Err refusal) × (new ≡ old)
+StepDone step at old (Err fault) new = RefusedBy step fault × (new ≡ old)
 
 -- a line is done
-abbrev pub LineDone : Share → (ℕ → Prices) → Line → (at : ℕ) → (old : List ℕ × Group) → Result ℕ RunRefusal → (new : List ℕ × Group) → Type 0
+abbrev pub LineDone : Share → (ℕ → Prices) → Line → (at : ℕ) → (old : List ℕ × Group) → Result ℕ RunFault → (new : List ℕ × Group) → Type 0
 LineDone share prices line at old answer new =
     StepDone (after_line share prices (length old.0 - at) line old.1) at old answer new
 
 -- what is read of a text is done
-abbrev pub TextDone : Share → (ℕ → Prices) → (text : List ℕ) → (at : ℕ) → (old : List ℕ × Group) → Result ℕ RunRefusal → (new : List ℕ × Group) → Type 0
+abbrev pub TextDone : Share → (ℕ → Prices) → (text : List ℕ) → (at : ℕ) → (old : List ℕ × Group) → Result ℕ RunFault → (new : List ℕ × Group) → Type 0
 TextDone share prices text at old answer new =
     (reading : Result Line ReadRefusal) × LineRead text reading
     × StepDone (after_reading share prices (length old.0 - at) reading old.1) at old answer new

@@ -3,7 +3,7 @@ use Rattle.std.specs.Borrow.{Bor}
 use Rattle.std.specs.Prelude.{◌≡◌, ℕ, ◌==◌, ◌<◌, if◌then◌else◌, List, [], ◌∷◌, ◌++◌, length, Option, MatchOption}
 use Rattle.std.specs.List.{concat}
 use Rattle.ledger.specs.declared.bill.Bill.{Bill}
-use Rattle.output.specs.Lines.{bill_line}
+use Rattle.settlement.specs.Output.{bill_line}
 use Rattle.group.specs.Months.{by_place}
 
 -- a byte before the first of some lines

@@ -4,9 +4,9 @@ ghost use Rattle.cells.specs.Cells.{overwritten};
 ghost use Rattle.settlement.specs.Steps.{output_room};
 ghost use Rattle.settlement.specs.Texts.{bills_text};
 
+use crate::output::{Figures, write_figures};
 use calendar::days::Month;
 use ledger::bill::Bill;
-use output::lines::{Figures, write_figures};
 
 // Writes the line of a member's figures from `at` on, where any such line has room, and answers the place after it.
 pub(crate) fn write_whole<F: Figures>(

@@ -1,11 +1,22 @@
 //! Where and why a run stops.
 ghost use Rattle.std.specs.Prelude.{◌≡◌};
-ghost use Rattle.settlement.specs.Faults.{fault_of, field_of, layer_of, number_of};
+ghost use Rattle.settlement.specs.Faults.{fault_at, field_of, layer_of, number_of};
 ghost use Rattle.settlement.specs.declared.fault.RunRefusal.TheVariants as refused;
 
 use group::refusal::BookRefusal;
 use journal::refusal::ReadRefusal;
-use output::fault::{Fault, Layer};
+
+// The line of a fault until the loop over the lines tells it.
+pub(crate) const NO_LINE: usize = 0;
+
+/// Which part of a run a fault comes from.
+#[derive(Clone, Copy, PartialEq, Eq, Debug)]
+pub enum Layer {
+    /// The book.
+    Book,
+    /// The text.
+    Text,
+}
 
 /// Why a run stops.
 #[derive(Clone, Copy, PartialEq, Eq, Debug)]
@@ -54,42 +65,46 @@ impl RunRefusal {
     }
 }
 
-// By hand, here and below: a derive would not state the case that `?` makes.
-impl From<ReadRefusal> for RunRefusal {
-    ghost from_gives = { λ refusal r. r ≡ refused.Line refusal };
-
-    fn from(refusal: ReadRefusal) -> RunRefusal {
-        RunRefusal::Line(refusal)
-    }
-}
-
-impl From<BookRefusal> for RunRefusal {
-    ghost from_gives = { λ refusal r. r ≡ refused.Book refusal };
-
-    fn from(refusal: BookRefusal) -> RunRefusal {
-        RunRefusal::Book(refusal)
-    }
-}
-
 /// Where and why a run stops.
 #[derive(Clone, Copy, PartialEq, Eq, Debug)]
 pub struct RunFault {
-    /// The line of the journal, counted from 1.
+    /// The line of the journal, counted from 1; 0 until the run tells it.
     pub line: usize,
+    /// The number of the first field that has not its form, where a field is meant.
+    pub field: Option<usize>,
+    /// The part of the run that refuses.
+    pub layer: Layer,
     /// The refusal, whole.
     pub refusal: RunRefusal,
 }
 
 impl RunFault {
-    /// The fault as its line tells it.
-    pub fn told(self) -> Fault
-        ensures { result ≡ fault_of self }
+    /// The fault of a refusal at a line.
+    pub fn new(line: usize, refusal: RunRefusal) -> RunFault
+        ensures { result ≡ fault_at line refusal }
     {
-        Fault {
-            line: self.line,
-            field: self.refusal.field(),
-            layer: self.refusal.layer(),
-            number: self.refusal.number(),
+        RunFault {
+            line,
+            field: refusal.field(),
+            layer: refusal.layer(),
+            refusal,
         }
+    }
+}
+
+// Each by hand: a derive would not state the fault that `?` makes.
+impl From<ReadRefusal> for RunFault {
+    ghost from_gives = { λ refusal r. r ≡ fault_at 0 (refused.Line refusal) };
+
+    fn from(refusal: ReadRefusal) -> RunFault {
+        RunFault::new(NO_LINE, RunRefusal::Line(refusal))
+    }
+}
+
+impl From<BookRefusal> for RunFault {
+    ghost from_gives = { λ refusal r. r ≡ fault_at 0 (refused.Book refusal) };
+
+    fn from(refusal: BookRefusal) -> RunFault {
+        RunFault::new(NO_LINE, RunRefusal::Book(refusal))
     }
 }

@@ -5,12 +5,12 @@ ghost use Rattle.settlement.specs.Runs.{Begun, BodyDone, JournalDone};
 ghost use Rattle.settlement.specs.Texts.{NextLine};
 ghost use Rattle.group.specs.Books.{SameTerms};
 
-use crate::fault::{RunFault, RunRefusal};
+use crate::fault::{NO_LINE, RunFault, RunRefusal};
+use crate::output::write_names;
 use crate::step::{check_room, run_line};
 use book::book::Book;
 use fields::marks::next_line_feed;
 use journal::names::after_names;
-use output::lines::write_names;
 use sharing::rule::SharingRule;
 use tariff::tariff::Tariff;
 
@@ -35,26 +35,27 @@ pub fn run<R: SharingRule, T: Tariff>(
     ensures outcome { JournalDone (R.SharingRule.sharing book.old.rule) (T.Tariff.price book.old.tariff)
         journal.now (out.old, book.old.group) result (out.new, book.new.group) }
     ensures terms { SameTerms book.old book.new }
-    ensures balance { LeadsOnBalanced R.SharingRule.sharing T.Tariff.price journal.now book.old book.new }
+    ensures balance { LeadsOnBalanced R.SharingRule.sharing T.Tariff.price
+        journal.now (out.old, book.old) result (out.new, book.new) }
 {
     match begin(journal, out) {
         Ok((body, at)) => run_body(book, body, out, at),
-        Err(refusal) => Outcome {
+        Err(fault) => Outcome {
             written: 0,
-            fault: Some(RunFault { line: 1, refusal }),
+            fault: Some(RunFault { line: 1, ..fault }),
         },
     }
 }
 
 // Goes through line 1: the text behind it, and the place behind the line of names of the output.
-fn begin<'a>(journal: &'a [u8], out: &mut [u8]) -> Result<(&'a [u8], usize), RunRefusal>
+fn begin<'a>(journal: &'a [u8], out: &mut [u8]) -> Result<(&'a [u8], usize), RunFault>
     ensures { Begun journal.now out.old result out.new }
 {
     if journal.len() > MOST_JOURNAL {
-        return Err(RunRefusal::Journal);
+        return Err(RunFault::new(NO_LINE, RunRefusal::Journal));
     }
     let Some(body) = after_names(journal) else {
-        return Err(RunRefusal::Journal);
+        return Err(RunFault::new(NO_LINE, RunRefusal::Journal));
     };
     check_room(out.len())?;
     let Ok(at) = write_names(out, 0) else {
@@ -96,10 +97,10 @@ fn run_body<R: SharingRule, T: Tariff>(
         number += 1;
         match run_line(book, line, number, out, written) {
             Ok(end) => written = end,
-            Err(refusal) => {
+            Err(fault) => {
                 let fault = Some(RunFault {
                     line: number,
-                    refusal,
+                    ..fault
                 });
                 return Outcome { written, fault };
             }

@@ -1,11 +1,11 @@
 //! What a line of a journal does to a book and to the output.
 ghost use Rattle.std.specs.Prelude.{◌≡◌, ◌≤◌, IfOk, length};
 ghost use Rattle.journal.specs.declared.line.Line.TheVariants as lines;
-ghost use Rattle.settlement.specs.Steps.{LineDone, TextDone, output_room, room_checked};
+ghost use Rattle.settlement.specs.Steps.{LineDone, RoomChecked, TextDone, output_room};
 ghost use Rattle.group.specs.Books.{SameTerms};
 
 use crate::bills::{write_bills, write_whole};
-use crate::fault::RunRefusal;
+use crate::fault::{NO_LINE, RunFault, RunRefusal};
 use book::book::Book;
 use group::group::Phase;
 use journal::line::Line;
@@ -24,7 +24,7 @@ fn enter<R: SharingRule, T: Tariff>(
     entry: Entry,
     out: &mut [u8],
     at: usize,
-) -> Result<usize, RunRefusal>
+) -> Result<usize, RunFault>
     ensures done { LineDone (R.SharingRule.sharing book.old.rule) (T.Tariff.price book.old.tariff)
         (lines.Enter entry) at (out.old, book.old.group) result (out.new, book.new.group) }
     ensures terms { SameTerms book.old book.new }
@@ -34,12 +34,12 @@ fn enter<R: SharingRule, T: Tariff>(
 }
 
 // Whether so much room is left as a run asks for where it writes.
-pub(crate) fn check_room(room: usize) -> Result<(), RunRefusal>
-    ensures answer { result ≡ room_checked room output_room }
+pub(crate) fn check_room(room: usize) -> Result<(), RunFault>
+    ensures answer { RoomChecked room result }
     ensures room { IfOk result (λ _. output_room ≤ room) }
 {
     if room < OUTPUT_ROOM {
-        return Err(RunRefusal::Room);
+        return Err(RunFault::new(NO_LINE, RunRefusal::Room));
     }
     Ok(())
 }
@@ -49,7 +49,7 @@ fn close_year<R: SharingRule, T: Tariff>(
     book: &mut Book<R, T>,
     out: &mut [u8],
     at: usize,
-) -> Result<usize, RunRefusal>
+) -> Result<usize, RunFault>
     requires { at ≤ length out.old }
     ensures done { LineDone (R.SharingRule.sharing book.old.rule) (T.Tariff.price book.old.tariff)
         lines.Year at (out.old, book.old.group) result (out.new, book.new.group) }
@@ -71,7 +71,7 @@ fn issue<R: SharingRule, T: Tariff>(
     book: &mut Book<R, T>,
     out: &mut [u8],
     at: usize,
-) -> Result<usize, RunRefusal>
+) -> Result<usize, RunFault>
     requires { at ≤ length out.old }
     ensures done { LineDone (R.SharingRule.sharing book.old.rule) (T.Tariff.price book.old.tariff)
         lines.Issue at (out.old, book.old.group) result (out.new, book.new.group) }
@@ -80,9 +80,9 @@ fn issue<R: SharingRule, T: Tariff>(
 {
     let mut bills = [Bill::default(); PLACES];
     let draft = book.draw(&mut bills)?;
-    if let Err(refusal) = check_room(out.len() - at) {
+    if let Err(fault) = check_room(out.len() - at) {
         book.withdraw(draft);
-        return Err(refusal);
+        return Err(fault);
     }
     let month = draft.month();
     let members = book.members();
@@ -96,7 +96,7 @@ pub(crate) fn carry_out<R: SharingRule, T: Tariff>(
     line: Line,
     out: &mut [u8],
     at: usize,
-) -> Result<usize, RunRefusal>
+) -> Result<usize, RunFault>
     requires { at ≤ length out.old }
     ensures done { LineDone (R.SharingRule.sharing book.old.rule) (T.Tariff.price book.old.tariff)
         line at (out.old, book.old.group) result (out.new, book.new.group) }
@@ -117,7 +117,7 @@ pub(crate) fn run_line<R: SharingRule, T: Tariff>(
     number: usize,
     out: &mut [u8],
     at: usize,
-) -> Result<usize, RunRefusal>
+) -> Result<usize, RunFault>
     requires { at ≤ length out.old }
     ensures done { TextDone (R.SharingRule.sharing book.old.rule) (T.Tariff.price book.old.tariff)
         text.now at (out.old, book.old.group) result (out.new, book.new.group) }

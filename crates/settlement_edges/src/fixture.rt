@@ -6,8 +6,7 @@ use group::member::{Member, OpeningRecord};
 use group::refusal::BookRefusal;
 use ledger::bill::YearEnd;
 use ledger::zone::{ByFlow, ByZone, Zone};
-use output::fault::{Fault, Layer};
-use settlement::fault::{RunFault, RunRefusal};
+use settlement::fault::{Layer, RunFault, RunRefusal};
 use settlement::run::{Outcome, run};
 use settlement::setup::Setup;
 use sharing::proportion::Proportion;
@@ -207,17 +206,16 @@ pub(crate) fn check_fault(rt: &impl Abort, fault: Option<RunFault>, stop: Stop) 
         field,
         layer,
     } = stop;
-    assert_eq!(rt; fault, RunFault { line, refusal });
-    assert_eq!(rt; fault.refusal.number(), number);
-    assert_eq!(rt; fault.refusal.field(), field);
-    assert_eq!(rt; fault.refusal.layer(), layer);
-    let told = Fault {
+    let told = RunFault {
         line,
         field,
         layer,
-        number,
+        refusal,
     };
-    assert_eq!(rt; fault.told(), told);
+    assert_eq!(rt; fault, told);
+    assert_eq!(rt; fault.refusal.number(), number);
+    assert_eq!(rt; fault.refusal.field(), field);
+    assert_eq!(rt; fault.refusal.layer(), layer);
 }
 
 // The output begins with these bytes, as many as were told written, and holds beyond them what it held before the run.

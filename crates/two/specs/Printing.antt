@@ -1,7 +1,6 @@
 -- What the program prints for a journal.
 use Rattle.std.specs.Prelude.{◌≡◌, ℕ, List, [], ◌++◌, None, Option, Some}
-use Rattle.output.specs.Faults.{fault_line}
-use Rattle.settlement.specs.Faults.{fault_of}
+use Rattle.settlement.specs.Faults.{fault_line}
 use Rattle.settlement.specs.Runs.{Ran, RunsOver}
 use Rattle.settlement.specs.declared.fault.RunFault.{RunFault}
 use Rattle.sharing.specs.Rules.{proportion}
@@ -10,7 +9,7 @@ use Rattle.two.specs.Two.{prices, two}
 -- the line of a fault, where there is one
 abbrev fault_text : Option RunFault → List ℕ
 fault_text None = []
-fault_text (Some fault) = fault_line (fault_of fault)
+fault_text (Some fault) = fault_line fault
 
 -- the run of a journal over the group of two, with room for 65,536 bytes, writes this text, and stops at this fault if at any
 abbrev pub OutputWritten : (journal text : List ℕ) → Option RunFault → Type 0

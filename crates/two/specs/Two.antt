@@ -1,7 +1,6 @@
 -- The group of two, and what a journal over it comes to.
-use Rattle.std.specs.Prelude.{◌≡◌, ℕ, ◌*◌, List, [], ◌∷◌}
-use Rattle.balance.specs.Balances.{BalancedThroughout}
-use Rattle.balance.specs.Histories.{Event}
+use Rattle.std.specs.Prelude.{◌≡◌, ℕ, ◌*◌, List, [], ◌∷◌, Ok}
+use Rattle.balance.specs.Histories.{Event, Opening}
 use Rattle.group.specs.Members.{opened_member, opening_record}
 use Rattle.group.specs.declared.group.Group.{Group}
 use Rattle.group.specs.declared.group.Phase.TheVariants.{Open}
@@ -9,7 +8,7 @@ use Rattle.group.specs.declared.member.OpeningRecord.{OpeningRecord}
 use Rattle.ledger.specs.declared.zone.ByFlow.{ByFlow}
 use Rattle.ledger.specs.declared.zone.ByZone.{ByZone}
 use Rattle.ledger.specs.declared.zone.Zone.TheVariants.{Day, Night}
-use Rattle.settlement.specs.Runs.{JournalDone}
+use Rattle.settlement.specs.Setups.{SettledFrom}
 use Rattle.settlement.specs.declared.run.Outcome.{Outcome}
 use Rattle.settlement.specs.declared.setup.Setup.{Setup}
 use Rattle.sharing.specs.Rules.{proportion}
@@ -61,9 +60,12 @@ two = record {
   entries = 0;
 }
 
--- a journal is run over a book of that group, settled by proportion at these prices, and a history leads to what that
--- leaves, balanced at its start and after each of its calls
+-- the call that opens it
+abbrev pub opening : Event
+opening = Opening 7 (24 * 12) 0 (producer ∷ household ∷ []) (Ok tt)
+
+-- a journal is run over a book of that group, settled by proportion at these prices, and the history of its opening and of
+-- the calls of the accepted lines leads to what that leaves, balanced at its start and after each of its calls
 abbrev pub SettlesTwo : (journal old : List ℕ) → Outcome → (new : List ℕ) → Type 0
 SettlesTwo journal old outcome new =
-    (after : Group) × JournalDone proportion (λ month. prices) journal (old, two) outcome (new, after)
-    × (history : List Event) × BalancedThroughout proportion (λ month. prices) history after
+    (after : Group) × SettledFrom proportion (λ month. prices) opening journal (old, two) outcome (new, after)

@@ -1,12 +1,11 @@
 //! The program over standard input and output.
 ghost use Rattle.std.specs.Prelude.{◌≡◌, IfOk, length};
-ghost use Rattle.output.specs.Faults.{fault_line};
-ghost use Rattle.settlement.specs.Faults.{fault_of};
+ghost use Rattle.settlement.specs.Faults.{fault_line};
 ghost use Rattle.two.specs.Printing.{OutputWritten, Printed};
 
 use crate::two::settle_two;
-use output::fault::{FAULT_ROOM, write_fault};
 use settlement::fault::RunFault;
+use settlement::fault_line::{FAULT_ROOM, write_fault};
 use settlement::run::MOST_JOURNAL;
 use std::alloc::{AllocError, Global};
 use std::io;
@@ -45,9 +44,9 @@ fn write_output(journal: &[u8], room: &mut Vec<u8>) -> Option<RunFault>
 
 // The line of a fault, which any such room holds.
 fn line_of(fault: RunFault, room: &mut [u8; FAULT_ROOM]) -> &[u8]
-    ensures { result.now ≡ fault_line (fault_of fault) }
+    ensures { result.now ≡ fault_line fault }
 {
-    let Ok(end) = write_fault(fault.told(), room) else {
+    let Ok(end) = write_fault(fault, room) else {
         unreachable!()
     };
     &room[..end]

@@ -1,4 +1,4 @@
-use Rattle.std.proofs.Common.{arith, length, refl}
+use Rattle.std.proofs.Common.{arith, refl}
 use Rattle.std.proofs.lemmas.Grind.{common_steps}
 use Rattle.settlement.proofs.Beginning.{goes_on_after_1, stops_at_1}
 use Rattle.settlement.proofs.Histories.{run_leads_on}
@@ -10,14 +10,12 @@ returns-in-Ok-clause-outcome g c =
     goes_on_after_1 _ _ _ _ _ _ _ _ _ _ _ begins room names (grind (arith, common_steps)) c.run_body.ensures.done
 
 pub returns-in-Err-clause-outcome : goal.returns-in-Err-clause-outcome
-returns-in-Err-clause-outcome g c = stops_at_1 _ _ _ _ _ _ c.in-Err.refusal c.in-Err.ensures
+returns-in-Err-clause-outcome g c = stops_at_1 _ _ _ _ _ _ c.in-Err.fault c.in-Err.ensures
 
 pub returns-in-Ok-clause-balance : goal.returns-in-Ok-clause-balance
 returns-in-Ok-clause-balance g c =
-    let (ran, over, done) = returns-in-Ok-clause-outcome g c in
-    run_leads_on g.R.SharingRule.sharing g.T.Tariff.price g.met.R.SharingRule.fair c.args.book.now c.run_body.new.book c.args.journal.now (length c.args.out.now) ran c.run_body.ensures.terms over done.2
+    run_leads_on g.R.SharingRule.sharing g.T.Tariff.price g.met.R.SharingRule.fair c.args.journal.now (c.args.out.now, c.args.book.now) (c.run_body.new.out, c.run_body.new.book) c.run_body.result c.run_body.ensures.terms (returns-in-Ok-clause-outcome g c)
 
 pub returns-in-Err-clause-balance : goal.returns-in-Err-clause-balance
 returns-in-Err-clause-balance g c =
-    let (ran, over, done) = returns-in-Err-clause-outcome g c in
-    run_leads_on g.R.SharingRule.sharing g.T.Tariff.price g.met.R.SharingRule.fair c.args.book.now c.args.book.now c.args.journal.now (length c.args.out.now) ran (record { rule = refl; tariff = refl }) over done.2
+    run_leads_on g.R.SharingRule.sharing g.T.Tariff.price g.met.R.SharingRule.fair c.args.journal.now (c.args.out.now, c.args.book.now) (c.begin.new.out, c.args.book.now) _ (record { rule = refl; tariff = refl }) (returns-in-Err-clause-outcome g c)

@@ -1,9 +1,9 @@
 -- How long the parts of a line of the output are at most.
 use Rattle.std.proofs.Common.{◌≤◌, length, arith}
 use Rattle.fields.proofs.Widths.{digits_8, digits_32, digits_64, signed_64}
-use Rattle.output.specs.Faults.{layer_word}
-use Rattle.output.specs.declared.fault.Layer.{Layer}
-use Rattle.output.specs.declared.fault.Layer.TheVariants.{Book, Text}
+use Rattle.settlement.specs.Faults.{layer_word}
+use Rattle.settlement.specs.declared.fault.Layer.{Layer}
+use Rattle.settlement.specs.declared.fault.Layer.TheVariants.{Book, Text}
 use Rattle.std.proofs.lemmas.List.{length-append}
 
 pub length_layer_word : (layer : Layer) → length (layer_word layer) ≤ 4

@@ -6,12 +6,12 @@ use Rattle.fields.specs.Texts.{month_text}
 use Rattle.ledger.specs.declared.bill.Bill.{Bill}
 use Rattle.ledger.specs.declared.bill.YearEnd.{YearEnd}
 use Rattle.std.specs.Fmt.{signed_decimal}
-use Rattle.output.specs.declared.refusal.OutputRefusal.{OutputRefusal}
-use Rattle.output.specs.declared.refusal.OutputRefusal.TheVariants.{Room}
+use Rattle.settlement.specs.declared.refusal.OutputRefusal.{OutputRefusal}
+use Rattle.settlement.specs.declared.refusal.OutputRefusal.TheVariants.{Room}
 
 -- the number of a refusal
-abbrev pub number_of : OutputRefusal → ℕ
-number_of Room = 27
+abbrev pub output_number : OutputRefusal → ℕ
+output_number Room = 27
 
 -- the line of names of the output
 abbrev pub output_names : List ℕ

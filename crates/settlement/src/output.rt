@@ -2,7 +2,7 @@
 ghost use Rattle.std.specs.Prelude.{◌≡◌, ℕ, ◌≤◌, List, length, map};
 ghost use Rattle.cells.specs.Cells.{cell_text};
 ghost use Rattle.fields.specs.Rows.{line_of};
-ghost use Rattle.output.specs.Lines.{TextWritten, bill_line, output_names, year_line};
+ghost use Rattle.settlement.specs.Output.{TextWritten, bill_line, output_names, year_line};
 
 use crate::refusal::OutputRefusal;
 use calendar::days::Month;

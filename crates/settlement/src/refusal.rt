@@ -1,6 +1,6 @@
 //! Why a line of the output is not written.
 ghost use Rattle.std.specs.Prelude.{◌≡◌};
-ghost use Rattle.output.specs.Lines.{number_of};
+ghost use Rattle.settlement.specs.Output.{output_number};
 
 /// The refusal of a writer of a line of the output.
 #[derive(Clone, Copy, PartialEq, Eq, Debug)]
@@ -13,7 +13,7 @@ impl OutputRefusal {
     // A `match` is as short as a conversion to a number, and the number stands beside its case.
     /// The refusal's number.
     pub fn number(self) -> u8
-        ensures { result ≡ number_of self }
+        ensures { result ≡ output_number self }
     {
         match self {
             OutputRefusal::Room => 27,
