@@ -23,7 +23,7 @@ use Rattle.marked.proofs.Months.{issue_read, reading}
 use Rattle.marked.proofs.Running.{Lines, alone, body_alone, line_done, line_refused}
 use Rattle.marked.specs.Orders.{LinesInOrder, year_end}
 use Rattle.marked.specs.Runs.{FaultTold, RunsTo, StopsWith}
-use Rattle.output.specs.Faults.{fault_line}
+use Rattle.settlement.specs.Faults.{fault_line}
 use Rattle.settlement.specs.Faults.{fault_of}
 use Rattle.settlement.specs.Laws.{OneOutcome}
 use Rattle.settlement.specs.Runs.{IsJournal, no_journal, no_room, stopped, after_text, ended}

@@ -9,10 +9,10 @@ use Rattle.journal.specs.declared.line.Line.TheVariants.{Enter}
 use Rattle.journal.specs.declared.refusal.WriteRefusal.{WriteRefusal}
 use Rattle.journal.specs.declared.refusal.WriteRefusal.TheVariants.{Form, Room}
 use Rattle.marked.specs.Numbers.{Numbered, Roomed}
-use Rattle.output.specs.Faults.{FaultWritten}
-use Rattle.output.specs.declared.fault.Fault.{Fault}
-use Rattle.output.specs.declared.refusal.OutputRefusal.{OutputRefusal}
-use Rattle.output.specs.declared.refusal.OutputRefusal.TheVariants as output
+use Rattle.settlement.specs.Faults.{FaultWritten}
+use Rattle.settlement.specs.declared.fault.Fault.{Fault}
+use Rattle.settlement.specs.declared.refusal.OutputRefusal.{OutputRefusal}
+use Rattle.settlement.specs.declared.refusal.OutputRefusal.TheVariants as output
 
 line_room : (line : Line) (old new : List ℕ) (answer : Result ℕ WriteRefusal) → Writable line → LineWritten line old new answer → (answer ≡ Err Room) ↔ (length old < 64)
 line_room line old new (Ok end) fine written = (λ e. absurd (false≢true (sym (ap is_ok e))), λ short. absurd (omega (arith, written.1)))

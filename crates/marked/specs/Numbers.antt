@@ -14,11 +14,11 @@ use Rattle.journal.specs.declared.refusal.ReadRefusal.{ReadRefusal}
 use Rattle.journal.specs.declared.refusal.ReadRefusal.TheVariants as reading
 use Rattle.journal.specs.declared.refusal.WriteRefusal.{WriteRefusal}
 use Rattle.journal.specs.declared.refusal.WriteRefusal.TheVariants as writing
-use Rattle.output.specs.Faults.{FaultWritten}
-use Rattle.output.specs.Lines.{number_of as output_number}
-use Rattle.output.specs.declared.fault.Fault.{Fault}
-use Rattle.output.specs.declared.refusal.OutputRefusal.{OutputRefusal}
-use Rattle.output.specs.declared.refusal.OutputRefusal.TheVariants as output
+use Rattle.settlement.specs.Faults.{FaultWritten}
+use Rattle.settlement.specs.Lines.{number_of as output_number}
+use Rattle.settlement.specs.declared.fault.Fault.{Fault}
+use Rattle.settlement.specs.declared.refusal.OutputRefusal.{OutputRefusal}
+use Rattle.settlement.specs.declared.refusal.OutputRefusal.TheVariants as output
 use Rattle.settlement.specs.Faults.{number_of as run_number}
 use Rattle.settlement.specs.Steps.{output_room, room_for}
 use Rattle.settlement.specs.declared.fault.RunRefusal.TheVariants as run

@@ -2,7 +2,7 @@
 use Rattle.std.specs.Prelude.{◌≡◌, ℕ, List, [], ◌∷◌, ◌++◌, None, Option, Some, codes}
 use Rattle.std.specs.List.{concat}
 use Rattle.group.specs.declared.group.Group.{Group}
-use Rattle.output.specs.Faults.{fault_line}
+use Rattle.settlement.specs.Faults.{fault_line}
 use Rattle.settlement.specs.Faults.{fault_of}
 use Rattle.settlement.specs.Runs.{Ran, RunsOver}
 use Rattle.settlement.specs.declared.fault.RunFault.{RunFault}
