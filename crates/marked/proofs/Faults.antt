@@ -23,8 +23,7 @@ use Rattle.marked.proofs.Months.{issue_read, reading}
 use Rattle.marked.proofs.Running.{Lines, alone, body_alone, line_done, line_refused}
 use Rattle.marked.specs.Orders.{LinesInOrder, year_end}
 use Rattle.marked.specs.Runs.{FaultTold, RunsTo, StopsWith}
-use Rattle.settlement.specs.Faults.{fault_line}
-use Rattle.settlement.specs.Faults.{fault_of}
+use Rattle.settlement.specs.Faults.{fault_at, fault_line}
 use Rattle.settlement.specs.Laws.{OneOutcome}
 use Rattle.settlement.specs.Runs.{IsJournal, no_journal, no_room, stopped, after_text, ended}
 use Rattle.settlement.specs.Steps.{after_line, after_reading}
@@ -84,7 +83,7 @@ abbrev names : List ℕ
 names = codes "line,month,place,dayb,nightb,dayc,nightc,drams,debt\n"
 
 -- a body of one line that is refused
-one_line : OneOutcome → (room left : ℕ) (group : Group) (text fault : List ℕ) (answer : Result Line ReadRefusal) (refusal : RunRefusal) → room ≡ left + 52 → 4096 ≤ room → room ≤ 65536 → length text ≤ 100 → text_lines text ≡ text ∷ [] → LineRead text answer → after_reading proportion (λ month. prices) left answer group ≡ Err refusal → fault_line (fault_of (record { line = 2; refusal = refusal })) ≡ fault → StopsWith room group text fault
+one_line : OneOutcome → (room left : ℕ) (group : Group) (text fault : List ℕ) (answer : Result Line ReadRefusal) (refusal : RunRefusal) → room ≡ left + 52 → 4096 ≤ room → room ≤ 65536 → length text ≤ 100 → text_lines text ≡ text ∷ [] → LineRead text answer → after_reading proportion (λ month. prices) left answer group ≡ Err refusal → fault_line (fault_at 2 refusal) ≡ fault → StopsWith room group text fault
 one_line one room left group text fault answer refusal is long short few parted read refuses tells =
     body_alone one room group text names fault (stopped 2 refusal group) (omega (arith, length-append {A = ℕ}, few)) long
     (subst₂ (λ n lines. Lines n 2 lines group (stopped 2 refusal group)) (omega (arith, is)) (sym parted) (line_refused left 2 text [] answer group refusal read refuses))

@@ -10,7 +10,7 @@ use Rattle.journal.specs.declared.refusal.WriteRefusal.{WriteRefusal}
 use Rattle.journal.specs.declared.refusal.WriteRefusal.TheVariants.{Form, Room}
 use Rattle.marked.specs.Numbers.{Numbered, Roomed}
 use Rattle.settlement.specs.Faults.{FaultWritten}
-use Rattle.settlement.specs.declared.fault.Fault.{Fault}
+use Rattle.settlement.specs.declared.fault.RunFault.{RunFault}
 use Rattle.settlement.specs.declared.refusal.OutputRefusal.{OutputRefusal}
 use Rattle.settlement.specs.declared.refusal.OutputRefusal.TheVariants as output
 
@@ -19,7 +19,7 @@ line_room line old new (Ok end) fine written = (λ e. absurd (false≢true (sym 
 line_room line old new (Err Form) fine written = absurd (written.0 fine)
 line_room line old new (Err Room) fine written = (λ e. written.1, λ short. refl)
 
-fault_room : (fault : Fault) (old new : List ℕ) (answer : Result ℕ OutputRefusal) → FaultWritten fault old new answer → (answer ≡ Err output.Room) ↔ (length old < 64)
+fault_room : (fault : RunFault) (old new : List ℕ) (answer : Result ℕ OutputRefusal) → FaultWritten fault old new answer → (answer ≡ Err output.Room) ↔ (length old < 64)
 fault_room fault old new (Ok end) written = (λ e. absurd (false≢true (sym (ap is_ok e))), λ short. absurd (omega (arith, written.0)))
 fault_room fault old new (Err output.Room) written = (λ e. written.0, λ short. refl)
 

@@ -6,7 +6,7 @@ use Rattle.journal.specs.Names.{journal_names}
 use Rattle.journal.specs.declared.line.Line.{Line}
 use Rattle.journal.specs.declared.refusal.ReadRefusal.{ReadRefusal}
 use Rattle.marked.specs.Runs.{RunsTo, Tells, TwoRuns}
-use Rattle.settlement.specs.Lines.{output_names}
+use Rattle.settlement.specs.Output.{output_names}
 use Rattle.settlement.specs.Laws.{OneOutcome}
 use Rattle.settlement.specs.Runs.{GoesOn, LinesRun, Ran, after_text, runs, stopped}
 use Rattle.settlement.specs.Steps.{after_line, after_reading, output_room}

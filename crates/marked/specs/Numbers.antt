@@ -15,8 +15,8 @@ use Rattle.journal.specs.declared.refusal.ReadRefusal.TheVariants as reading
 use Rattle.journal.specs.declared.refusal.WriteRefusal.{WriteRefusal}
 use Rattle.journal.specs.declared.refusal.WriteRefusal.TheVariants as writing
 use Rattle.settlement.specs.Faults.{FaultWritten}
-use Rattle.settlement.specs.Lines.{number_of as output_number}
-use Rattle.settlement.specs.declared.fault.Fault.{Fault}
+use Rattle.settlement.specs.Output.{output_number}
+use Rattle.settlement.specs.declared.fault.RunFault.{RunFault}
 use Rattle.settlement.specs.declared.refusal.OutputRefusal.{OutputRefusal}
 use Rattle.settlement.specs.declared.refusal.OutputRefusal.TheVariants as output
 use Rattle.settlement.specs.Faults.{number_of as run_number}
@@ -67,7 +67,7 @@ pub record Roomed : Type 0 where
   pub year : room_for Year ≡ 4096
   pub line : (line : Line) (old new : List ℕ) (answer : Result ℕ WriteRefusal) → Writable line
       → LineWritten line old new answer → (answer ≡ Err writing.Room) ↔ (length old < 64)
-  pub fault : (fault : Fault) (old new : List ℕ) (answer : Result ℕ OutputRefusal)
+  pub fault : (fault : RunFault) (old new : List ℕ) (answer : Result ℕ OutputRefusal)
       → FaultWritten fault old new answer → (answer ≡ Err output.Room) ↔ (length old < 64)
   pub form_first : (old new : List ℕ) (answer : Result ℕ WriteRefusal) → length old < 64
       → LineWritten ten_digits old new answer → answer ≡ Err writing.Form

@@ -3,7 +3,6 @@ use Rattle.std.specs.Prelude.{◌≡◌, ℕ, List, [], ◌∷◌, ◌++◌, Non
 use Rattle.std.specs.List.{concat}
 use Rattle.group.specs.declared.group.Group.{Group}
 use Rattle.settlement.specs.Faults.{fault_line}
-use Rattle.settlement.specs.Faults.{fault_of}
 use Rattle.settlement.specs.Runs.{Ran, RunsOver}
 use Rattle.settlement.specs.declared.fault.RunFault.{RunFault}
 use Rattle.sharing.specs.Rules.{proportion}
@@ -12,7 +11,7 @@ use Rattle.two.specs.Two.{prices, two}
 -- the line of the fault that a run stops at, or nothing
 abbrev pub told : Option RunFault → List ℕ
 told None = []
-told (Some fault) = fault_line (fault_of fault)
+told (Some fault) = fault_line fault
 
 -- a run by proportion and at the prices of the group of two
 abbrev pub TwoRuns : (room : ℕ) → Group → (journal : List ℕ) → Ran → Type 0
