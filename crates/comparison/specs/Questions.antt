@@ -41,15 +41,23 @@ at line field wrong = record { line = line; field = field; wrong = wrong }
 -- where and why what follows the first line is no line of parts
 pub data NoParts (bs : List ℕ) : Fault → Type 0 where
   second_endless : 0 < length bs → Lacks line_feed bs → NoParts bs (at 2 None LineFeed)
-  second_unread : (second rest : List ℕ) (fault : Fault) → Begins bs second rest → Stops 2 most_places second fault → NoParts bs fault
-  third_line : (second rest parts : List ℕ) → Begins bs second rest → RowOf most_places second parts → 0 < length rest → NoParts bs (at 3 None Line)
+  second_unread : (second rest : List ℕ) (fault : Fault)
+      → Begins bs second rest → Stops 2 most_places second fault → NoParts bs fault
+  third_line : (second rest parts : List ℕ)
+      → Begins bs second rest → RowOf most_places second parts → 0 < length rest
+      → NoParts bs (at 3 None Line)
 
 -- where and why the text is no question
 pub data NoQuestion (bs : List ℕ) : Fault → Type 0 where
   first_endless : Lacks line_feed bs → NoQuestion bs (at 1 None LineFeed)
-  first_unread : (first rest : List ℕ) (fault : Fault) → Begins bs first rest → Stops 1 (most_places + 1) first fault → NoQuestion bs fault
-  no_need : (first rest : List ℕ) (pool : ℕ) → Begins bs first rest → RowOf (most_places + 1) first (pool ∷ []) → NoQuestion bs (at 1 (Some 2) Missing)
-  no_parts : (first rest : List ℕ) (pool need : ℕ) (needs : List ℕ) (fault : Fault) → Begins bs first rest → RowOf (most_places + 1) first (pool ∷ need ∷ needs) → NoParts rest fault → NoQuestion bs fault
+  first_unread : (first rest : List ℕ) (fault : Fault)
+      → Begins bs first rest → Stops 1 (most_places + 1) first fault → NoQuestion bs fault
+  no_need : (first rest : List ℕ) (pool : ℕ)
+      → Begins bs first rest → RowOf (most_places + 1) first (pool ∷ [])
+      → NoQuestion bs (at 1 (Some 2) Missing)
+  no_parts : (first rest : List ℕ) (pool need : ℕ) (needs : List ℕ) (fault : Fault)
+      → Begins bs first rest → RowOf (most_places + 1) first (pool ∷ need ∷ needs)
+      → NoParts rest fault → NoQuestion bs fault
 
 -- no question has this text
 abbrev pub AsksNothing : List ℕ → Type 0

@@ -24,9 +24,10 @@ SharesByNeed =
 abbrev pub RoundsRunningSums : Type 0
 RoundsRunningSums =
     (pool : ℕ) (needs : List ℕ) (place : ℕ)
-    → let given = min pool (sum needs) in
+    → let all = sum needs in
+    let given = min pool all in
     slice_index (proportion pool needs) place
-    ≡ (given * sum (take (place + 1) needs)) / sum needs - (given * sum (take place needs)) / sum needs
+    ≡ (given * sum (take (place + 1) needs)) / all - (given * sum (take place needs)) / all
 
 -- by parts, over whatever rule, a place has at least the smaller of its need and its part of the pool, rounded down
 abbrev pub PartsGoAhead : Type 0
@@ -39,15 +40,18 @@ PartsGoAhead =
 pub record GoesAhead (pool : ℕ) (parts needs first : List ℕ) : Type 0 where
   pub as_many : length first ≡ length needs
   pub each : (place : ℕ)
-      → slice_index first place ≡ min (slice_index needs place) ((pool * slice_index parts place) / 10000)
+      → slice_index first place
+      ≡ min (slice_index needs place) ((pool * slice_index parts place) / 10000)
 
 -- what is left of each need after that
 pub record IsLeft (needs first rest : List ℕ) : Type 0 where
   pub as_many : length rest ≡ length needs
-  pub each : (place : ℕ) → slice_index rest place ≡ slice_index needs place - slice_index first place
+  pub each : (place : ℕ)
+      → slice_index rest place ≡ slice_index needs place - slice_index first place
 
 -- a place has what goes ahead to it, and what the rule below gives it of the pool and the needs that are left
-pub record AddsToRest (below : ℕ → List ℕ → List ℕ) (parts : List ℕ) (pool : ℕ) (needs : List ℕ) : Type 0 where
+pub record AddsToRest (below : ℕ → List ℕ → List ℕ) (parts : List ℕ) (pool : ℕ) (needs : List ℕ)
+    : Type 0 where
   pub first : List ℕ
   pub rest : List ℕ
   pub goes_ahead : GoesAhead pool parts needs first
