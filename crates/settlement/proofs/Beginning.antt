@@ -17,11 +17,11 @@ use Rattle.settlement.specs.declared.fault.RunRefusal.{RunRefusal}
 use Rattle.settlement.specs.declared.fault.RunRefusal.TheVariants as refused
 use Rattle.settlement.specs.declared.run.Outcome.{Outcome}
 
-too_short : (room : ℕ) (refusal : RunRefusal) → room_checked room output_room ≡ Err refusal → room < 4096
-too_short room refusal is = grind (arith, nat_tests)
+pub too_short : (room needed : ℕ) (refusal : RunRefusal) → room_checked room needed ≡ Err refusal → room < needed
+too_short room needed refusal is = grind (arith, nat_tests)
 
-of_room : (room : ℕ) (refusal : RunRefusal) → room_checked room output_room ≡ Err refusal → refusal ≡ refused.Room
-of_room room refusal is = grind (arith, nat_tests)
+pub of_room : (room needed : ℕ) (refusal : RunRefusal) → room_checked room needed ≡ Err refusal → refusal ≡ refused.Room
+of_room room needed refusal is = grind (arith, nat_tests)
 
 -- a fault of no line yet is at the line that it is told
 pub told_at : (line : ℕ) (fault : RunFault) → fault ≡ fault_at 0 fault.refusal → (let told : RunFault = record fault { line = line } in told) ≡ fault_at line fault.refusal
@@ -30,8 +30,8 @@ told_at line fault is = ap (λ (f : RunFault). let told : RunFault = record f { 
 -- the output is too short
 pub no_room_begun : (journal old body : List ℕ) (r : Result (Bor (List ℕ) × ℕ) RunFault) (fault : RunFault) → IsJournal journal body → RefusedBy (room_checked (length old) output_room) fault → r ≡ Err fault → Begun journal old r old
 no_room_begun journal old body r fault begins (checked, at_0) is =
-    let short : NotBegun journal (length old) refused.Room = (body, begins, too_short (length old) fault.refusal checked) in
-    let why = subst (λ refusal. NotBegun journal (length old) refusal) (sym (of_room (length old) fault.refusal checked)) short in
+    let short : NotBegun journal (length old) refused.Room = (body, begins, too_short (length old) output_room fault.refusal checked) in
+    let why = subst (λ refusal. NotBegun journal (length old) refusal) (sym (of_room (length old) output_room fault.refusal checked)) short in
     subst (λ answer. Begun journal old answer old) (sym is) (why, at_0, refl)
 
 -- there is no journal

@@ -34,7 +34,7 @@ accepted_leads share prices lines group texts calls after (a_closing december fi
     (accepted_leads share prices rest new more_texts later after more (Closing (Ok figures) ∷ history) (group, leads, closes))
 
 -- what a run did, where it stopped at line 1
-accepts_nothing : (share : Share) (prices : ℕ → Prices) (journal : List ℕ) (old new : List ℕ × Group) (answer : Outcome) (ran : Ran) → RunDone ran 0 old answer new → StopsAt1 old.1 ran → AcceptsLines share prices journal old answer new
+accepts_nothing : (share : Share) (prices : ℕ → Prices) (journal : List ℕ) (old new : List ℕ × Group) (answer : Outcome) (ran : Ran) → RunDone ran 0 old answer new → StopsAt1 journal (length old.0) old.1 ran → AcceptsLines share prices journal old answer new
 accepts_nothing share prices journal old new answer ran (fault, put, is) stops =
     let nothing = put_as stops.text put in
     record {
@@ -45,14 +45,14 @@ accepts_nothing share prices journal old new answer ran (fault, put, is) stops =
       written = inl
           (record {
             none = refl;
-            fault = subst (λ (f : Option RunFault). IsSomeAnd f (λ at. at.line ≡ 1)) (sym fault) stops.fault;
+            fault = subst (λ (f : Option RunFault). IsSomeAnd f (λ at. at.line ≡ 1)) (sym (fault ∙ stops.fault)) refl;
             written = nothing.stop;
             output = nothing.held ∙ sym (put_none old.0 0).held;
           });
     }
 
 -- and where it went behind it
-accepts_first : (share : Share) (prices : ℕ → Prices) (journal : List ℕ) (old new : List ℕ × Group) (answer : Outcome) (ran : Ran) → RunDone ran 0 old answer new → BodyInOrder share prices journal old.1 ran → AcceptsLines share prices journal old answer new
+accepts_first : (share : Share) (prices : ℕ → Prices) (journal : List ℕ) (old new : List ℕ × Group) (answer : Outcome) (ran : Ran) → RunDone ran 0 old answer new → BodyInOrder share prices journal (length old.0) old.1 ran → AcceptsLines share prices journal old answer new
 accepts_first share prices journal old new answer ran (fault, put, is) found =
     let order = found.order in
     let there : found.rest.group ≡ new.1 = sym (is ∙ ap (λ (r : Ran). r.group) found.names) in

@@ -1,11 +1,13 @@
 -- The output of a run is what the accepted lines write, in order.
-use Rattle.std.proofs.Common.{◌≡◌, ◌∙◌, ℕ, suc, ◌+◌, ◌-◌, List, [], ◌∷◌, ◌++◌, length, None, Option, Some, inl, inr, Ok, Err, Result, refl, sym, ap, subst, arith}
+use Rattle.std.proofs.Common.{◌≡◌, ◌∙◌, ℕ, suc, ◌+◌, ◌-◌, List, [], ◌∷◌, ◌++◌, drop, length, None, Option, Some, inl, inr, ◌⊎◌, ⊎_elim, Ok, Err, Result, refl, sym, ap, subst, arith}
+use Rattle.std.proofs.lemmas.List.{length-append}
 use Rattle.std.specs.List.{concat}
 use Rattle.balance.proofs.Theorem.{ended_in}
 use Rattle.balance.specs.Histories.{Closing, Drawing, Entering, Event, Issuing}
 use Rattle.group.proofs.Stepping.{and_then_ok, made_ok}
-use Rattle.group.specs.Results.{made}
+use Rattle.group.specs.Results.{and_then, made}
 use Rattle.group.specs.declared.group.Group.{Group}
+use Rattle.group.specs.declared.refusal.BookRefusal.{BookRefusal}
 use Rattle.journal.specs.Lines.{LineRead}
 use Rattle.ledger.specs.declared.bill.Bill.{Bill}
 use Rattle.journal.specs.declared.line.Line.{Line}
@@ -16,14 +18,17 @@ use Rattle.group.specs.Drafts.{Stamp, drawn, issued}
 use Rattle.group.specs.Entries.{after_entry}
 use Rattle.group.specs.Months.{Prices, Share}
 use Rattle.group.specs.Years.{after_year, open_year, year_figures}
+use Rattle.settlement.proofs.Beginning.{of_room, too_short}
 use Rattle.settlement.proofs.Stepping.{through}
 use Rattle.settlement.specs.Accepting.{Accepted, a_closing, an_entry, an_issue, none}
 use Rattle.settlement.specs.Laws.{InOrder, OutputInOrder, StopsBehind}
 use Rattle.settlement.specs.Runs.{GoesOn, LinesRun, Ran, after_text, no_journal, no_room, runs, stopped}
-use Rattle.settlement.specs.Steps.{after_reading, done_by}
+use Rattle.settlement.specs.Steps.{after_reading, done_by, refused_as, room_checked, room_for}
+use Rattle.settlement.specs.Stopping.{BookRefuses, IsReason, StopsAt, by_the_book, no_line, short_of_room}
 use Rattle.settlement.specs.Texts.{bills_text, text_lines}
 use Rattle.settlement.specs.declared.fault.RunFault.{RunFault}
 use Rattle.settlement.specs.declared.fault.RunRefusal.{RunRefusal}
+use Rattle.settlement.specs.declared.fault.RunRefusal.TheVariants as refused
 
 -- one accepted line more in front
 record More (share : Share) (prices : ℕ → Prices) (lines : List Line) (group after : Group) (output : List ℕ) : Type 0 where
@@ -67,13 +72,56 @@ more share prices Year lines group new after text texts calls done rest =
       writes = ap (λ t. t ++ concat texts) (sym written);
     }
 
+-- what makes no value has its refusal from what it is made of
+made_err : {A B E : Type 0} (f : A → B) (r : Result A E) (e : E) → made f r ≡ Err e → r ≡ Err e
+made_err f (Ok a) e is = absurd cc
+made_err f (Err other) e is = cc
+
+and_then_err : {A B E : Type 0} (r : Result A E) (step : A → Result B E) (e : E) → and_then r step ≡ Err e → (r ≡ Err e) ⊎ ((a : A) × (r ≡ Ok a) × (step a ≡ Err e))
+and_then_err (Ok a) step e is = inr (a, refl, is)
+and_then_err (Err other) step e is = inl cc
+
+-- what a line does is refused by a call of the book
+book_refusal : (share : Share) (prices : ℕ → Prices) (line : Line) (group : Group) (refusal : BookRefusal) → done_by share prices line group ≡ Err refusal → BookRefuses share prices line group refusal
+book_refusal share prices (Enter entry) group refusal is =
+    made_err (λ (h : Group). let nothing : List ℕ = [] in (nothing, h)) (after_entry entry group) refusal is
+book_refusal share prices Issue group refusal is =
+    let told : Stamp × List Bill → List Bill × Group → List ℕ × Group = λ d i. (bills_text d.0.month i.0, i.1) in
+    ⊎_elim inl
+    (λ found. inr (found.0, found.1, made_err (told found.0) (issued share prices found.0.0 32 group) refusal found.2))
+    (and_then_err (drawn share prices 32 group) (λ (d : Stamp × List Bill). made (told d) (issued share prices d.0 32 group)) refusal is)
+book_refusal share prices Year group refusal is =
+    ap (made (λ d. (year_figures (prices d) group, after_year prices d group)))
+    (made_err (λ (d : ℕ). (year_line d group.holder (year_figures (prices d) group), after_year prices d group)) (open_year group.phase) refusal is)
+
+stops_line : (share : Share) (prices : ℕ → Prices) (room : ℕ) (group : Group) (text : List ℕ) (line : Line) (does : Result (List ℕ × Group) BookRefusal) (refusal : RunRefusal) → LineRead text (Ok line) → done_by share prices line group ≡ does → and_then (refused_as refused.Book does) (λ (done : List ℕ × Group). made (λ (checked : Unit {0}). done) (room_checked room (room_for line))) ≡ Err refusal → StopsAt share prices room group text refusal
+stops_line share prices room group text line (Ok (written, new)) refusal read does is =
+    let checked = made_err (λ (checked : Unit {0}). (written, new)) (room_checked room (room_for line)) refusal is in
+    let accepted = more share prices line [] group new new written [] [] does (none new) in
+    subst (λ r. StopsAt share prices room group text r) (sym (of_room room (room_for line) refusal checked))
+    (short_of_room line accepted.texts accepted.calls new read accepted.taken (too_short room (room_for line) refusal checked))
+stops_line share prices room group text line (Err by_book) refusal read does is =
+    let known : ◌≡◌ {A = Result (List ℕ × Group) RunRefusal} (Err (refused.Book by_book)) (Err refusal) = is in
+    let same : refused.Book by_book ≡ refusal = cc in
+    subst (λ r. StopsAt share prices room group text r) same
+    (by_the_book line by_book read (book_refusal share prices line group by_book does))
+
+-- what is refused of a reading is refused for one of three reasons
+stops_at : (share : Share) (prices : ℕ → Prices) (room : ℕ) (group : Group) (text : List ℕ) (reading : Result Line ReadRefusal) (refusal : RunRefusal) → LineRead text reading → after_reading share prices room reading group ≡ Err refusal → StopsAt share prices room group text refusal
+stops_at share prices room group text (Ok line) refusal read is =
+    stops_line share prices room group text line (done_by share prices line group) refusal read refl is
+stops_at share prices room group text (Err wrong) refusal read is =
+    let known : ◌≡◌ {A = Result (List ℕ × Group) RunRefusal} (Err (refused.Line wrong)) (Err refusal) = is in
+    let same : refused.Line wrong ≡ refusal = cc in
+    subst (λ r. StopsAt share prices room group text r) same (no_line wrong read)
+
 -- the stop is told from the line before on
 stop_more : (first accepted all : ℕ) (fault : Option RunFault) → StopsBehind (first + 1) accepted all fault → StopsBehind first (suc accepted) (suc all) fault
 stop_more first many all None is = omega (arith, is)
 stop_more first many all (Some fault) is = (omega (arith, is.0), omega (arith, is.1))
 
-in_order_more : (share : Share) (prices : ℕ → Prices) (first : ℕ) (text_line : List ℕ) (rest : List (List ℕ)) (group new : Group) (text : List ℕ) (line : Line) (later : Ran) → LineRead text_line (Ok line) → done_by share prices line group ≡ Ok (text, new) → InOrder share prices (first + 1) rest new later → InOrder share prices first (text_line ∷ rest) group (after_text text later)
-in_order_more share prices first text_line rest group new text line later read done order =
+in_order_more : (share : Share) (prices : ℕ → Prices) (room first : ℕ) (text_line : List ℕ) (rest : List (List ℕ)) (group new : Group) (text : List ℕ) (line : Line) (later : Ran) → LineRead text_line (Ok line) → done_by share prices line group ≡ Ok (text, new) → InOrder share prices (room - length text) (first + 1) rest new later → InOrder share prices room first (text_line ∷ rest) group (after_text text later)
+in_order_more share prices room first text_line rest group new text line later read done order =
     let all = more share prices line order.accepted group new later.group text order.texts order.calls done order.taken in
     record {
       accepted = line ∷ order.accepted;
@@ -83,10 +131,12 @@ in_order_more share prices first text_line rest group new text line later read d
       taken = all.taken;
       output = ap (λ t. text ++ t) order.output ∙ all.writes;
       stop = stop_more first (length order.accepted) (length rest) later.fault order.stop;
+      reason = subst (λ n. IsReason share prices n later.group (drop (length order.accepted) rest) later.fault)
+          (omega (arith, length-append text later.text)) order.reason;
     }
 
-none_in_order : (share : Share) (prices : ℕ → Prices) (first : ℕ) (line : List ℕ) (lines : List (List ℕ)) (group : Group) (refusal : RunRefusal) → InOrder share prices first (line ∷ lines) group (stopped first refusal group)
-none_in_order share prices first line lines group refusal = record {
+none_in_order : (share : Share) (prices : ℕ → Prices) (room first : ℕ) (line : List ℕ) (lines : List (List ℕ)) (group : Group) (refusal : RunRefusal) → StopsAt share prices room group line refusal → InOrder share prices room first (line ∷ lines) group (stopped first refusal group)
+none_in_order share prices room first line lines group refusal why = record {
   accepted = [];
   texts = [];
   calls = [];
@@ -94,21 +144,23 @@ none_in_order share prices first line lines group refusal = record {
   taken = none group;
   output = refl;
   stop = (omega arith, omega arith);
+  reason = (line, lines, refl, subst (λ n. StopsAt share prices n group line refusal) (omega arith) why, refl);
 }
 
-goes_in_order : (share : Share) (prices : ℕ → Prices) (room first : ℕ) (text_line : List ℕ) (rest : List (List ℕ)) (reading : Result Line ReadRefusal) (group : Group) (Rest : List ℕ → Group → Ran → Type 0) (step : Result (List ℕ × Group) RunRefusal) (ran : Ran) → LineRead text_line reading → after_reading share prices room reading group ≡ step → GoesOn first group step Rest ran → ((text : List ℕ) (new : Group) (later : Ran) → Rest text new later → InOrder share prices (first + 1) rest new later) → InOrder share prices first (text_line ∷ rest) group ran
+goes_in_order : (share : Share) (prices : ℕ → Prices) (room first : ℕ) (text_line : List ℕ) (rest : List (List ℕ)) (reading : Result Line ReadRefusal) (group : Group) (Rest : List ℕ → Group → Ran → Type 0) (step : Result (List ℕ × Group) RunRefusal) (ran : Ran) → LineRead text_line reading → after_reading share prices room reading group ≡ step → GoesOn first group step Rest ran → ((text : List ℕ) (new : Group) (later : Ran) → Rest text new later → InOrder share prices (room - length text) (first + 1) rest new later) → InOrder share prices room first (text_line ∷ rest) group ran
 goes_in_order share prices room first text_line rest reading group Rest (Ok done) ran read is (later, behind, comes) further =
     let line = through share prices room reading group done.1 done.0 is in
     let known = subst (λ (r : Result Line ReadRefusal). LineRead text_line r) line.is read in
-    subst (λ (r : Ran). InOrder share prices first (text_line ∷ rest) group r) (sym comes)
-    (in_order_more share prices first text_line rest group done.1 done.0 line.line later known line.done (further done.0 done.1 later behind))
+    subst (λ (r : Ran). InOrder share prices room first (text_line ∷ rest) group r) (sym comes)
+    (in_order_more share prices room first text_line rest group done.1 done.0 line.line later known line.done (further done.0 done.1 later behind))
 goes_in_order share prices room first text_line rest reading group Rest (Err refusal) ran read is comes further =
-    subst (λ (r : Ran). InOrder share prices first (text_line ∷ rest) group r) (sym comes) (none_in_order share prices first text_line rest group refusal)
+    subst (λ (r : Ran). InOrder share prices room first (text_line ∷ rest) group r) (sym comes)
+    (none_in_order share prices room first text_line rest group refusal (stops_at share prices room group text_line reading refusal read is))
 
-in_order : (share : Share) (prices : ℕ → Prices) (lines : List (List ℕ)) (room first : ℕ) (group : Group) (ran : Ran) → LinesRun share prices room first lines group ran → InOrder share prices first lines group ran
+in_order : (share : Share) (prices : ℕ → Prices) (lines : List (List ℕ)) (room first : ℕ) (group : Group) (ran : Ran) → LinesRun share prices room first lines group ran → InOrder share prices room first lines group ran
 in_order share prices [] room first group ran is =
-    subst (λ (r : Ran). InOrder share prices first [] group r) (sym is)
-    (record { accepted = []; texts = []; calls = []; read = tt; taken = none group; output = refl; stop = refl })
+    subst (λ (r : Ran). InOrder share prices room first [] group r) (sym is)
+    (record { accepted = []; texts = []; calls = []; read = tt; taken = none group; output = refl; stop = refl; reason = refl })
 in_order share prices (line ∷ lines) room first group ran (reading, read, goes) =
     goes_in_order share prices room first line lines reading group
     (λ text new later. LinesRun share prices (room - length text) (first + 1) lines new later)
@@ -116,7 +168,9 @@ in_order share prices (line ∷ lines) room first group ran (reading, read, goes
     (λ text new later. in_order share prices lines (room - length text) (first + 1) new later)
 
 pub output_in_order : OutputInOrder
-output_in_order share prices journal room group ran (no_journal begins) = inl (record { fault = refl; text = refl; after = refl })
-output_in_order share prices journal room group ran (no_room body begins short) = inl (record { fault = refl; text = refl; after = refl })
+output_in_order share prices journal room group ran (no_journal begins) =
+    inl (record { refusal = refused.Journal; reason = begins; fault = refl; text = refl; after = refl })
+output_in_order share prices journal room group ran (no_room body begins short) =
+    inl (record { refusal = refused.Room; reason = (body, begins, short); fault = refl; text = refl; after = refl })
 output_in_order share prices journal room group ran (runs body rest begins long lines) =
     inr (record { body = body; begins = begins; rest = rest; order = in_order share prices (text_lines body) _ _ group rest lines; names = refl })

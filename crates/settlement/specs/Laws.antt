@@ -1,5 +1,5 @@
 -- What holds of every run, by the lines alone.
-use Rattle.std.specs.Prelude.{◌≡◌, ℕ, ◌<◌, ◌+◌, ◌-◌, ◌≤◌, List, [], ◌++◌, length, None, Option, Some, IsSomeAnd, ◌⊎◌}
+use Rattle.std.specs.Prelude.{◌≡◌, ℕ, ◌<◌, ◌+◌, ◌-◌, ◌≤◌, List, [], ◌++◌, drop, length, None, Option, Some, ◌⊎◌}
 use Rattle.std.specs.List.{concat}
 use Rattle.balance.specs.Histories.{Event}
 use Rattle.group.specs.declared.group.Group.{Group}
@@ -7,17 +7,21 @@ use Rattle.journal.specs.declared.line.Line.{Line}
 use Rattle.settlement.specs.Output.{output_names}
 use Rattle.group.specs.Months.{Prices, Share}
 use Rattle.settlement.specs.Accepting.{Accepted, ReadFirst}
-use Rattle.settlement.specs.Runs.{IsJournal, LinesRun, Ran, RunsOver, after_text}
+use Rattle.settlement.specs.Faults.{fault_at}
+use Rattle.settlement.specs.Runs.{IsJournal, LinesRun, NotBegun, Ran, RunsOver, after_text}
+use Rattle.settlement.specs.Stopping.{IsReason}
 use Rattle.settlement.specs.Texts.{text_lines}
 use Rattle.settlement.specs.declared.fault.RunFault.{RunFault}
+use Rattle.settlement.specs.declared.fault.RunRefusal.{RunRefusal}
 
 -- of so many lines, which are counted from a number on, all are accepted; or the fault is at the one behind those accepted
 abbrev pub StopsBehind : (first accepted all : ℕ) → Option RunFault → Type 0
 StopsBehind first accepted all None = accepted ≡ all
 StopsBehind first accepted all (Some fault) = (fault.line ≡ first + accepted) × (accepted < all)
 
--- the first of the lines are read and accepted, all before the fault, and the output is what they write, in order
-pub record InOrder (share : Share) (prices : ℕ → Prices) (first : ℕ) (lines : List (List ℕ)) (group : Group) (ran : Ran) : Type 0 where
+-- with so much room, the first of the lines are read and accepted, all before the fault, which says why the run stops at the
+-- next one, and the output is what they write, in order
+pub record InOrder (share : Share) (prices : ℕ → Prices) (room first : ℕ) (lines : List (List ℕ)) (group : Group) (ran : Ran) : Type 0 where
   pub accepted : List Line
   pub texts : List (List ℕ)
   pub calls : List Event
@@ -25,26 +29,29 @@ pub record InOrder (share : Share) (prices : ℕ → Prices) (first : ℕ) (line
   pub taken : Accepted share prices accepted group texts calls ran.group
   pub output : ran.text ≡ concat texts
   pub stop : StopsBehind first (length accepted) (length lines) ran.fault
+  pub reason : IsReason share prices (room - length ran.text) ran.group (drop (length accepted) lines) ran.fault
 
--- the run stopped at line 1, with nothing written and nothing done
-pub record StopsAt1 (group : Group) (ran : Ran) : Type 0 where
-  pub fault : IsSomeAnd ran.fault (λ fault. fault.line ≡ 1)
+-- the run stopped at line 1, since there is no journal or the room is short, with nothing written and nothing done
+pub record StopsAt1 (journal : List ℕ) (room : ℕ) (group : Group) (ran : Ran) : Type 0 where
+  pub refusal : RunRefusal
+  pub reason : NotBegun journal room refusal
+  pub fault : ran.fault ≡ Some (fault_at 1 refusal)
   pub text : ran.text ≡ []
   pub after : ran.group ≡ group
 
 -- the output of a journal that is gone into is the line of names, and then what the lines of its body write, in order
-pub record BodyInOrder (share : Share) (prices : ℕ → Prices) (journal : List ℕ) (group : Group) (ran : Ran) : Type 0 where
+pub record BodyInOrder (share : Share) (prices : ℕ → Prices) (journal : List ℕ) (room : ℕ) (group : Group) (ran : Ran) : Type 0 where
   pub body : List ℕ
   pub begins : IsJournal journal body
   pub rest : Ran
-  pub order : InOrder share prices 2 (text_lines body) group rest
+  pub order : InOrder share prices (room - length output_names) 2 (text_lines body) group rest
   pub names : ran ≡ after_text output_names rest
 
 -- so every run either stops at line 1 or has its output in order
 abbrev pub OutputInOrder : Type 0
 OutputInOrder =
     (share : Share) (prices : ℕ → Prices) (journal : List ℕ) (room : ℕ) (group : Group) (ran : Ran)
-    → RunsOver share prices journal room group ran → StopsAt1 group ran ⊎ BodyInOrder share prices journal group ran
+    → RunsOver share prices journal room group ran → StopsAt1 journal room group ran ⊎ BodyInOrder share prices journal room group ran
 
 -- lines that are run to their end and more lines from there are one run of all of them
 abbrev pub RunsGoOn : Type 0

@@ -6,4 +6,5 @@ pub mod Output
 pub mod Runs
 pub mod Setups
 pub mod Steps
+pub mod Stopping
 pub mod Texts

@@ -1,0 +1,45 @@
+-- Why a run stops at a line.
+use Rattle.std.specs.Prelude.{◌≡◌, ℕ, ◌<◌, List, [], ◌∷◌, None, Option, Some, Ok, Err, ◌⊎◌}
+use Rattle.balance.specs.Histories.{Event}
+use Rattle.group.specs.declared.group.Group.{Group}
+use Rattle.group.specs.declared.refusal.BookRefusal.{BookRefusal}
+use Rattle.journal.specs.Lines.{LineRead}
+use Rattle.ledger.specs.declared.bill.Bill.{Bill}
+use Rattle.lines.specs.declared.line.Line.{Line}
+use Rattle.lines.specs.declared.line.Line.TheVariants.{Enter, Issue, Year}
+use Rattle.lines.specs.declared.refusal.ReadRefusal.{ReadRefusal}
+use Rattle.steps.specs.Drafts.{Stamp, drawn, issued}
+use Rattle.steps.specs.Entries.{after_entry}
+use Rattle.steps.specs.Months.{Prices, Share}
+use Rattle.steps.specs.Years.{closed}
+use Rattle.settlement.specs.Accepting.{Accepted}
+use Rattle.settlement.specs.Faults.{fault_at}
+use Rattle.settlement.specs.Steps.{room_for}
+use Rattle.settlement.specs.declared.fault.RunFault.{RunFault}
+use Rattle.settlement.specs.declared.fault.RunRefusal.{RunRefusal}
+use Rattle.settlement.specs.declared.fault.RunRefusal.TheVariants as refused
+
+-- the book refuses what a line says: the entry, the drawing or its issue, or the closing of the year
+abbrev pub BookRefuses : Share → (ℕ → Prices) → Line → Group → BookRefusal → Type 0
+BookRefuses share prices (Enter entry) group refusal = after_entry entry group ≡ Err refusal
+BookRefuses share prices Issue group refusal =
+    (drawn share prices 32 group ≡ Err refusal)
+    ⊎ ((drawing : Stamp × List Bill) × (drawn share prices 32 group ≡ Ok drawing) × (issued share prices drawing.0 32 group ≡ Err refusal))
+BookRefuses share prices Year group refusal = closed prices group ≡ Err refusal
+
+-- why a run stops at a text, over a group and with so much room: the text is no line, the book refuses what it says, or the
+-- book would accept it and the room for what it writes is short
+pub data StopsAt (share : Share) (prices : ℕ → Prices) (room : ℕ) (group : Group) (text : List ℕ) : RunRefusal → Type 0 where
+  no_line : (refusal : ReadRefusal) → LineRead text (Err refusal) → StopsAt share prices room group text (refused.Line refusal)
+  by_the_book : (line : Line) (refusal : BookRefusal) → LineRead text (Ok line) → BookRefuses share prices line group refusal
+      → StopsAt share prices room group text (refused.Book refusal)
+  short_of_room : (line : Line) (texts : List (List ℕ)) (calls : List Event) (after : Group) → LineRead text (Ok line)
+      → Accepted share prices (line ∷ []) group texts calls after → room < room_for line
+      → StopsAt share prices room group text refused.Room
+
+-- the fault is that of the first of the lines that are left, and says why the run stops there; or there is none, and none is left
+abbrev pub IsReason : Share → (ℕ → Prices) → (room : ℕ) → Group → (left : List (List ℕ)) → Option RunFault → Type 0
+IsReason share prices room group left None = left ≡ []
+IsReason share prices room group left (Some fault) =
+    (text : List ℕ) × (later : List (List ℕ)) × (left ≡ text ∷ later)
+    × StopsAt share prices room group text fault.refusal × (fault ≡ fault_at fault.line fault.refusal)
