@@ -5,3 +5,4 @@ mod Numbering
 mod Ordering
 mod Readings
 mod Running
+mod Years

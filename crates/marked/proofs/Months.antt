@@ -75,7 +75,7 @@ after_readings readings given used by_day by_night = record two {
 }
 
 -- the bytes that the output has left behind its line of names
-abbrev left : ℕ
+abbrev pub left : ℕ
 left = 65484
 
 given_done : after_line proportion (λ month. prices) left (reading 0 Day Delivered 8796 900) two ≡ Ok ([], after_readings 1 900 0 0 0)

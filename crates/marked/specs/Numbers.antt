@@ -29,7 +29,8 @@ use Rattle.sharing.specs.declared.refusal.ShareRefusal.TheVariants as sharing
 
 -- the refusals of opening
 abbrev opening_refusals : List BookRefusal
-opening_refusals = book.Opened ∷ book.Count ∷ book.Start ∷ book.Capacity ∷ book.Holder ∷ book.Register ∷ []
+opening_refusals =
+    book.Opened ∷ book.Count ∷ book.Start ∷ book.Capacity ∷ book.Holder ∷ book.Register ∷ []
 
 -- those of the book's other calls
 abbrev call_refusals : List BookRefusal
@@ -46,9 +47,11 @@ pub record Numbered : Type 0 where
   pub opening : map book_number opening_refusals ≡ 1 ∷ 2 ∷ 3 ∷ 4 ∷ 5 ∷ 6 ∷ []
   pub sharing : map share_number (sharing.Count ∷ sharing.Size ∷ []) ≡ 7 ∷ 8 ∷ []
   pub parts : (parts_meaning Parts).number ≡ 9
-  pub calls : map book_number call_refusals ≡ 11 ∷ 12 ∷ 13 ∷ 14 ∷ 15 ∷ 16 ∷ 17 ∷ 18 ∷ 19 ∷ 20 ∷ 21 ∷ []
+  pub calls : map book_number call_refusals
+      ≡ 11 ∷ 12 ∷ 13 ∷ 14 ∷ 15 ∷ 16 ∷ 17 ∷ 18 ∷ 19 ∷ 20 ∷ 21 ∷ []
   pub running : map run_number (run.Journal ∷ run.Room ∷ []) ≡ 24 ∷ 27 ∷ []
-  pub reading : (field : ℕ) → map read_number (reading.Fields ∷ reading.Form field ∷ []) ≡ 25 ∷ 26 ∷ []
+  pub reading : (field : ℕ)
+      → map read_number (reading.Fields ∷ reading.Form field ∷ []) ≡ 25 ∷ 26 ∷ []
   pub writing : map write_number (writing.Form ∷ writing.Room ∷ []) ≡ 26 ∷ 27 ∷ []
   pub output : output_number output.Room ≡ 27
   pub book_in_a_run : (refusal : BookRefusal) → run_number (run.Book refusal) ≡ book_number refusal

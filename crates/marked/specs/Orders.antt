@@ -69,7 +69,10 @@ pub record OpeningInOrder : Type 0 where
 abbrev used_to : (standing : ℕ) → (tally debt : ℤ) → Member
 used_to standing tally debt = record (opened_member household) {
   registers = record {
-    day = record { consumed = record { standing = standing; tally = tally }; delivered = opened_register 0 };
+    day = record {
+      consumed = record { standing = standing; tally = tally };
+      delivered = opened_register 0;
+    };
     night = opened_flows (record { consumed = 0; delivered = 0 });
   };
   account = record { debt = debt; fraction = 0 };
@@ -155,7 +158,8 @@ drawing group places = drawn proportion (λ month. prices) places group
 -- an issue of a draft of January 2024 with so many entries
 abbrev issuing : Group → (entries places : ℕ) → Result (List Bill × Group) BookRefusal
 issuing group entries places =
-    issued proportion (λ month. prices) (record { number = 7; month = 288; entries = entries }) places group
+    let stamp : Stamp = record { number = 7; month = 288; entries = entries } in
+    issued proportion (λ month. prices) stamp places group
 
 -- with one place for the lines of two members
 pub record DrawingInOrder : Type 0 where

@@ -2,6 +2,7 @@
 use Rattle.std.specs.Prelude.{◌≡◌, ℕ, List, [], ◌∷◌, ◌++◌, None, Option, Some, codes}
 use Rattle.std.specs.List.{concat}
 use Rattle.group.specs.declared.group.Group.{Group}
+use Rattle.group.specs.declared.group.Phase.TheVariants.{Open}
 use Rattle.settlement.specs.Faults.{fault_line}
 use Rattle.settlement.specs.Runs.{Ran, RunsOver}
 use Rattle.settlement.specs.declared.fault.RunFault.{RunFault}
@@ -48,6 +49,36 @@ month_bills = concat
 abbrev pub MonthSettled : Type 0
 MonthSettled = RunsTo 65536 two month_journal month_bills []
 
+-- the group of two in December 2023, with 100 kWh carried by day and 40 by night
+abbrev pub december : Group
+december = record two { carried = record { day = 100; night = 40 }; phase = Open 287 }
+
+-- its journal: an entry of each kind, the issue and the year's end
+abbrev pub year_journal : List ℕ
+year_journal = concat
+    (codes "kind,member,zone,flow,value,second,date\n"
+    ∷ codes "READ,0,DAY,GIVE,500,-,2023-12-31\n"
+    ∷ codes "SWAP,1,DAY,USE,300,5,2023-12-10\n"
+    ∷ codes "READ,1,DAY,USE,105,-,2023-12-31\n"
+    ∷ codes "CORR,1,NIGHT,USE,33,-,-\n"
+    ∷ codes "CORR,0,NIGHT,USE,-7,-,-\n"
+    ∷ codes "PAY,1,-,-,1000,-,-\n"
+    ∷ codes "ISSUE,-,-,-,-,-,-\n"
+    ∷ codes "YEAR,-,-,-,-,-,-\n" ∷ [])
+
+-- its bills, where the household's 300 and 100 kWh by day are covered by 600, and its 33 by night by 47; then the holder is
+-- paid 200 × 20.00 + 14 × 15.00 drams
+abbrev pub year_bills : List ℕ
+year_bills = concat
+    (codes "line,month,place,dayb,nightb,dayc,nightc,drams,debt\n"
+    ∷ codes "BILL,2023-12,0,0,0,0,0,0,0\n"
+    ∷ codes "BILL,2023-12,1,0,0,400,33,4330,3330\n"
+    ∷ codes "YEAR,2023-12,0,200,14,-,-,-4210,-4210\n" ∷ [])
+
+-- a month with its year's end, whole
+abbrev pub YearSettled : Type 0
+YearSettled = RunsTo 65536 december year_journal year_bills []
+
 -- a journal of the line of names and this
 abbrev pub journal_of : List ℕ → List ℕ
 journal_of body = codes "kind,member,zone,flow,value,second,date\n" ++ body
@@ -55,9 +86,12 @@ journal_of body = codes "kind,member,zone,flow,value,second,date\n" ++ body
 -- its run stops at the line of this fault, with nothing written but the line of names of the output
 abbrev pub StopsWith : (room : ℕ) → Group → (body fault : List ℕ) → Type 0
 StopsWith room group body fault =
-    RunsTo room group (journal_of body) (codes "line,month,place,dayb,nightb,dayc,nightc,drams,debt\n") fault
+    RunsTo room group (journal_of body)
+    (codes "line,month,place,dayb,nightb,dayc,nightc,drams,debt\n") fault
 
 -- a reading of a place without a record is refused by 13 of the book, and one on a 29 February of 2023 by 26 at field 7
 pub record FaultTold : Type 0 where
-  pub of_the_book : StopsWith 65536 two (codes "READ,2,DAY,USE,200,-,2024-01-31\n") (codes "FAULT,2,0,BOOK,13\n")
-  pub of_a_field : StopsWith 65536 two (codes "READ,0,DAY,GIVE,900,-,2023-02-29\n") (codes "FAULT,2,7,TEXT,26\n")
+  pub of_the_book : StopsWith 65536 two (codes "READ,2,DAY,USE,200,-,2024-01-31\n")
+      (codes "FAULT,2,0,BOOK,13\n")
+  pub of_a_field : StopsWith 65536 two (codes "READ,0,DAY,GIVE,900,-,2023-02-29\n")
+      (codes "FAULT,2,7,TEXT,26\n")

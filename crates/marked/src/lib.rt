@@ -4,7 +4,7 @@
 ghost use Rattle.marked.specs.Cases.{Credited, Dated, ReadAgain, ReadOrRefused, Shared, Tallied};
 ghost use Rattle.marked.specs.Numbers.{Numbered, Roomed};
 ghost use Rattle.marked.specs.Orders.{ChangeInOrder, ClosingInOrder, CorrectionInOrder, DrawingInOrder, IssueInOrder, LinesInOrder, OpeningInOrder, PaymentInOrder, ReadingInOrder, SharingInOrder};
-ghost use Rattle.marked.specs.Runs.{FaultTold, MonthSettled};
+ghost use Rattle.marked.specs.Runs.{FaultTold, MonthSettled, YearSettled};
 
 use settlement::law::one_outcome;
 
@@ -17,6 +17,7 @@ pub fn cases_stand()
     ensures shared { Shared }
     ensures tallied { Tallied }
     ensures month_settled { MonthSettled }
+    ensures year_settled { YearSettled }
     ensures fault_told { FaultTold }
     ensures numbered { Numbered }
     ensures roomed { Roomed }
@@ -52,6 +53,7 @@ fn registers_stand()
 // Holds the proof of the cases on whole runs.
 fn runs_stand()
     ensures month_settled { MonthSettled }
+    ensures year_settled { YearSettled }
     ensures fault_told { FaultTold }
     ensures lines_in_order { LinesInOrder }
 {

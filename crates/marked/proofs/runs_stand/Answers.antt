@@ -1,5 +1,6 @@
 use Rattle.marked.proofs.Faults.{fault_told, lines_in_order}
 use Rattle.marked.proofs.Months.{month_settled}
+use Rattle.marked.proofs.Years.{year_settled}
 use Rattle.marked.proofs.runs_stand.Goals as goal
 
 pub returns-clause-month_settled : goal.returns-clause-month_settled
@@ -10,3 +11,6 @@ returns-clause-fault_told c = fault_told c.one_outcome.ensures
 
 pub returns-clause-lines_in_order : goal.returns-clause-lines_in_order
 returns-clause-lines_in_order c = lines_in_order c.one_outcome.ensures
+
+pub returns-clause-year_settled : goal.returns-clause-year_settled
+returns-clause-year_settled c = year_settled c.one_outcome.ensures
