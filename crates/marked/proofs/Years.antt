@@ -13,8 +13,8 @@ use Rattle.journal.specs.Lines.{LineRead}
 use Rattle.ledger.specs.declared.entry.Entry.TheVariants.{Change, Correction, Payment}
 use Rattle.ledger.specs.declared.zone.Flow.TheVariants.{Consumed, Delivered}
 use Rattle.ledger.specs.declared.zone.Zone.TheVariants.{Day, Night}
-use Rattle.lines.specs.declared.line.Line.{Line}
-use Rattle.lines.specs.declared.line.Line.TheVariants.{Enter, Issue, Year}
+use Rattle.journal.specs.declared.line.Line.{Line}
+use Rattle.journal.specs.declared.line.Line.TheVariants.{Enter, Issue, Year}
 use Rattle.marked.proofs.Months.{issue_read, left, reading}
 use Rattle.marked.proofs.Running.{Lines, body_alone, line_done}
 use Rattle.marked.specs.Runs.{YearSettled, december, year_bills}
@@ -23,9 +23,9 @@ use Rattle.settlement.specs.Runs.{Ran, after_text, ended}
 use Rattle.settlement.specs.Steps.{after_line}
 use Rattle.settlement.specs.Texts.{text_lines}
 use Rattle.sharing.specs.Rules.{proportion}
-use Rattle.steps.specs.Drafts.{after_month}
-use Rattle.steps.specs.Months.{bill_of, billed_member}
-use Rattle.steps.specs.Years.{after_year, year_figures}
+use Rattle.group.specs.Drafts.{after_month}
+use Rattle.group.specs.Months.{bill_of, billed_member}
+use Rattle.group.specs.Years.{after_year, year_figures}
 use Rattle.two.specs.Two.{household, prices, producer}
 
 -- ---- the lines

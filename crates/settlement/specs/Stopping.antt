@@ -5,13 +5,13 @@ use Rattle.group.specs.declared.group.Group.{Group}
 use Rattle.group.specs.declared.refusal.BookRefusal.{BookRefusal}
 use Rattle.journal.specs.Lines.{LineRead}
 use Rattle.ledger.specs.declared.bill.Bill.{Bill}
-use Rattle.lines.specs.declared.line.Line.{Line}
-use Rattle.lines.specs.declared.line.Line.TheVariants.{Enter, Issue, Year}
-use Rattle.lines.specs.declared.refusal.ReadRefusal.{ReadRefusal}
-use Rattle.steps.specs.Drafts.{Stamp, drawn, issued}
-use Rattle.steps.specs.Entries.{after_entry}
-use Rattle.steps.specs.Months.{Prices, Share}
-use Rattle.steps.specs.Years.{closed}
+use Rattle.journal.specs.declared.line.Line.{Line}
+use Rattle.journal.specs.declared.line.Line.TheVariants.{Enter, Issue, Year}
+use Rattle.journal.specs.declared.refusal.ReadRefusal.{ReadRefusal}
+use Rattle.group.specs.Drafts.{Stamp, drawn, issued}
+use Rattle.group.specs.Entries.{after_entry}
+use Rattle.group.specs.Months.{Prices, Share}
+use Rattle.group.specs.Years.{closed}
 use Rattle.settlement.specs.Accepting.{Accepted}
 use Rattle.settlement.specs.Faults.{fault_at}
 use Rattle.settlement.specs.Steps.{room_for}
