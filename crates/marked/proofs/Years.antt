@@ -91,52 +91,53 @@ after_entries entries day night night_of_0 debt = record december {
   entries = entries;
 }
 
-abbrev g1 : Group
-g1 = after_entries 1 (register 0 (pos 0)) (pos 0) (pos 0) (pos 0)
+-- so after the first, and after each later one
+abbrev after_given : Group
+after_given = after_entries 1 (register 0 (pos 0)) (pos 0) (pos 0) (pos 0)
 
-abbrev g2 : Group
-g2 = after_entries 2 (register 5 (pos 300)) (pos 0) (pos 0) (pos 0)
+abbrev after_change : Group
+after_change = after_entries 2 (register 5 (pos 300)) (pos 0) (pos 0) (pos 0)
 
-abbrev g3 : Group
-g3 = after_entries 3 (register 105 (pos 400)) (pos 0) (pos 0) (pos 0)
+abbrev after_used : Group
+after_used = after_entries 3 (register 105 (pos 400)) (pos 0) (pos 0) (pos 0)
 
-abbrev g4 : Group
-g4 = after_entries 4 (register 105 (pos 400)) (pos 33) (pos 0) (pos 0)
+abbrev after_more : Group
+after_more = after_entries 4 (register 105 (pos 400)) (pos 33) (pos 0) (pos 0)
 
-abbrev g5 : Group
-g5 = after_entries 5 (register 105 (pos 400)) (pos 33) (negsuc 6) (pos 0)
+abbrev after_less : Group
+after_less = after_entries 5 (register 105 (pos 400)) (pos 33) (negsuc 6) (pos 0)
 
-abbrev g6 : Group
-g6 = after_entries 6 (register 105 (pos 400)) (pos 33) (negsuc 6) (negsuc 999)
+abbrev after_payment : Group
+after_payment = after_entries 6 (register 105 (pos 400)) (pos 33) (negsuc 6) (negsuc 999)
 
 -- what a line does with so many bytes left
 abbrev Does : (room : ℕ) → Line → (group : Group) → List ℕ → (new : Group) → Type 0
 Does room line group written new = after_line proportion (λ month. prices) room line group ≡ Ok (written, new)
 
-given_done : Does left (reading 0 Day Delivered 8765 500) december [] g1
+given_done : Does left (reading 0 Day Delivered 8765 500) december [] after_given
 unfolding quantity
 given_done = refl
 
-change_done : Does left change g1 [] g2
+change_done : Does left change after_given [] after_change
 unfolding quantity
 change_done = refl
 
-used_done : Does left (reading 1 Day Consumed 8765 105) g2 [] g3
+used_done : Does left (reading 1 Day Consumed 8765 105) after_change [] after_used
 unfolding quantity
 used_done = refl
 
-more_done : Does left (correction 1 (pos 33)) g3 [] g4
+more_done : Does left (correction 1 (pos 33)) after_used [] after_more
 more_done = refl
 
-less_done : Does left (correction 0 (negsuc 6)) g4 [] g5
+less_done : Does left (correction 0 (negsuc 6)) after_more [] after_less
 less_done = refl
 
-payment_done : Does left (Enter (Payment 1 1000)) g5 [] g6
+payment_done : Does left (Enter (Payment 1 1000)) after_less [] after_payment
 payment_done = refl
 
 -- the group after the issue, and at the end
 abbrev issued_group : Group
-issued_group = after_month proportion (λ month. prices) 287 g6
+issued_group = after_month proportion (λ month. prices) 287 after_payment
 
 abbrev closed_group : Group
 closed_group = after_year (λ month. prices) 287 issued_group
@@ -148,7 +149,7 @@ bills = codes "BILL,2023-12,0,0,0,0,0,0,0\n" ++ (codes "BILL,2023-12,1,0,0,400,3
 abbrev figures : List ℕ
 figures = codes "YEAR,2023-12,0,200,14,-,-,-4210,-4210\n"
 
-issue_done : Does left Issue g6 bills issued_group
+issue_done : Does left Issue after_payment bills issued_group
 unfolding digits bill_of
 issue_done = refl
 
@@ -159,29 +160,29 @@ year_done = refl
 -- ---- the run
 
 -- the lines of the body, from each on
-abbrev from_8 : List (List ℕ)
-from_8 = codes "YEAR,-,-,-,-,-,-\n" ∷ []
+abbrev from_year : List (List ℕ)
+from_year = codes "YEAR,-,-,-,-,-,-\n" ∷ []
 
-abbrev from_7 : List (List ℕ)
-from_7 = codes "ISSUE,-,-,-,-,-,-\n" ∷ from_8
+abbrev from_issue : List (List ℕ)
+from_issue = codes "ISSUE,-,-,-,-,-,-\n" ∷ from_year
 
-abbrev from_6 : List (List ℕ)
-from_6 = codes "PAY,1,-,-,1000,-,-\n" ∷ from_7
+abbrev from_payment : List (List ℕ)
+from_payment = codes "PAY,1,-,-,1000,-,-\n" ∷ from_issue
 
-abbrev from_5 : List (List ℕ)
-from_5 = codes "CORR,0,NIGHT,USE,-7,-,-\n" ∷ from_6
+abbrev from_less : List (List ℕ)
+from_less = codes "CORR,0,NIGHT,USE,-7,-,-\n" ∷ from_payment
 
-abbrev from_4 : List (List ℕ)
-from_4 = codes "CORR,1,NIGHT,USE,33,-,-\n" ∷ from_5
+abbrev from_more : List (List ℕ)
+from_more = codes "CORR,1,NIGHT,USE,33,-,-\n" ∷ from_less
 
-abbrev from_3 : List (List ℕ)
-from_3 = codes "READ,1,DAY,USE,105,-,2023-12-31\n" ∷ from_4
+abbrev from_used : List (List ℕ)
+from_used = codes "READ,1,DAY,USE,105,-,2023-12-31\n" ∷ from_more
 
-abbrev from_2 : List (List ℕ)
-from_2 = codes "SWAP,1,DAY,USE,300,5,2023-12-10\n" ∷ from_3
+abbrev from_change : List (List ℕ)
+from_change = codes "SWAP,1,DAY,USE,300,5,2023-12-10\n" ∷ from_used
 
-abbrev from_1 : List (List ℕ)
-from_1 = codes "READ,0,DAY,GIVE,500,-,2023-12-31\n" ∷ from_2
+abbrev from_given : List (List ℕ)
+from_given = codes "READ,0,DAY,GIVE,500,-,2023-12-31\n" ∷ from_change
 
 -- what the run comes to from the year's end on, and from the issue on
 abbrev at_year : Ran
@@ -190,35 +191,35 @@ at_year = after_text figures (ended closed_group)
 abbrev at_issue : Ran
 at_issue = after_text bills at_year
 
-run_8 : Lines (left - length bills) 9 from_8 issued_group at_year
-run_8 = line_done (left - length bills) 9 (codes "YEAR,-,-,-,-,-,-\n") figures [] Year issued_group closed_group (ended closed_group) year_read year_done refl
+year_run : Lines (left - length bills) 9 from_year issued_group at_year
+year_run = line_done (left - length bills) 9 (codes "YEAR,-,-,-,-,-,-\n") figures [] Year issued_group closed_group (ended closed_group) year_read year_done refl
 
-run_7 : Lines left 8 from_7 g6 at_issue
-run_7 = line_done left 8 (codes "ISSUE,-,-,-,-,-,-\n") bills from_8 Issue g6 issued_group at_year issue_read issue_done run_8
+issue_run : Lines left 8 from_issue after_payment at_issue
+issue_run = line_done left 8 (codes "ISSUE,-,-,-,-,-,-\n") bills from_year Issue after_payment issued_group at_year issue_read issue_done year_run
 
-run_6 : Lines left 7 from_6 g5 at_issue
-run_6 = line_done left 7 (codes "PAY,1,-,-,1000,-,-\n") [] from_7 (Enter (Payment 1 1000)) g5 g6 at_issue payment_read payment_done run_7
+payment_run : Lines left 7 from_payment after_less at_issue
+payment_run = line_done left 7 (codes "PAY,1,-,-,1000,-,-\n") [] from_issue (Enter (Payment 1 1000)) after_less after_payment at_issue payment_read payment_done issue_run
 
-run_5 : Lines left 6 from_5 g4 at_issue
-run_5 = line_done left 6 (codes "CORR,0,NIGHT,USE,-7,-,-\n") [] from_6 (correction 0 (negsuc 6)) g4 g5 at_issue less_read less_done run_6
+less_run : Lines left 6 from_less after_more at_issue
+less_run = line_done left 6 (codes "CORR,0,NIGHT,USE,-7,-,-\n") [] from_payment (correction 0 (negsuc 6)) after_more after_less at_issue less_read less_done payment_run
 
-run_4 : Lines left 5 from_4 g3 at_issue
-run_4 = line_done left 5 (codes "CORR,1,NIGHT,USE,33,-,-\n") [] from_5 (correction 1 (pos 33)) g3 g4 at_issue more_read more_done run_5
+more_run : Lines left 5 from_more after_used at_issue
+more_run = line_done left 5 (codes "CORR,1,NIGHT,USE,33,-,-\n") [] from_less (correction 1 (pos 33)) after_used after_more at_issue more_read more_done less_run
 
-run_3 : Lines left 4 from_3 g2 at_issue
-run_3 = line_done left 4 (codes "READ,1,DAY,USE,105,-,2023-12-31\n") [] from_4 (reading 1 Day Consumed 8765 105) g2 g3 at_issue used_read used_done run_4
+used_run : Lines left 4 from_used after_change at_issue
+used_run = line_done left 4 (codes "READ,1,DAY,USE,105,-,2023-12-31\n") [] from_more (reading 1 Day Consumed 8765 105) after_change after_used at_issue used_read used_done more_run
 
-run_2 : Lines left 3 from_2 g1 at_issue
-run_2 = line_done left 3 (codes "SWAP,1,DAY,USE,300,5,2023-12-10\n") [] from_3 change g1 g2 at_issue change_read change_done run_3
+change_run : Lines left 3 from_change after_given at_issue
+change_run = line_done left 3 (codes "SWAP,1,DAY,USE,300,5,2023-12-10\n") [] from_used change after_given after_change at_issue change_read change_done used_run
 
-run_1 : Lines left 2 from_1 december at_issue
-run_1 = line_done left 2 (codes "READ,0,DAY,GIVE,500,-,2023-12-31\n") [] from_2 (reading 0 Day Delivered 8765 500) december g1 at_issue given_read given_done run_2
+given_run : Lines left 2 from_given december at_issue
+given_run = line_done left 2 (codes "READ,0,DAY,GIVE,500,-,2023-12-31\n") [] from_change (reading 0 Day Delivered 8765 500) december after_given at_issue given_read given_done change_run
 
-parted : text_lines (concat from_1) ≡ from_1
+parted : text_lines (concat from_given) ≡ from_given
 parted = refl
 
 pub year_settled : OneOutcome → YearSettled
 year_settled one =
-    body_alone one 65536 december (concat from_1) year_bills [] at_issue (lit≤ tt) (lit≤ tt)
-    (subst (λ lines. Lines left 2 lines december at_issue) (sym parted) run_1)
+    body_alone one 65536 december (concat from_given) year_bills [] at_issue (lit≤ tt) (lit≤ tt)
+    (subst (λ lines. Lines left 2 lines december at_issue) (sym parted) given_run)
     (refl, refl)

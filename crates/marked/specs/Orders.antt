@@ -62,6 +62,7 @@ pub record OpeningInOrder : Type 0 where
   pub holder : after_opening 7 1199 33 (alike 32 32 10000000) blank ≡ Err book.Holder
   pub register : after_opening 7 1199 31 (alike 32 32 10000000) blank ≡ Err book.Register
   pub accepted : IsOk (after_opening 7 1199 31 (alike 32 32 9999999) blank)
+  pub two_opens : after_opening 7 288 0 (producer ∷ household ∷ []) blank ≡ Ok two
 
 -- ---- entries
 
@@ -155,10 +156,10 @@ pub record PaymentInOrder : Type 0 where
 abbrev drawing : Group → (places : ℕ) → Result (Stamp × List Bill) BookRefusal
 drawing group places = drawn proportion (λ month. prices) places group
 
--- an issue of a draft of January 2024 with so many entries
-abbrev issuing : Group → (entries places : ℕ) → Result (List Bill × Group) BookRefusal
-issuing group entries places =
-    let stamp : Stamp = record { number = 7; month = 288; entries = entries } in
+-- an issue of a draft with these three numbers
+abbrev issuing : Group → (number month entries places : ℕ) → Result (List Bill × Group) BookRefusal
+issuing group number month entries places =
+    let stamp : Stamp = record { number = number; month = month; entries = entries } in
     issued proportion (λ month. prices) stamp places group
 
 -- with one place for the lines of two members
@@ -167,12 +168,14 @@ pub record DrawingInOrder : Type 0 where
   pub lines : drawing nearly_full 1 ≡ Err book.Lines
   pub accepted : IsOk (drawing nearly_full 2)
 
--- the same, with a draft of one entry more than the month has
+-- the same, with a draft of another group and another month, and of one entry more than there are
 pub record IssueInOrder : Type 0 where
-  pub no_month : issuing year_end 1000 1 ≡ Err book.NoMonth
-  pub lines : issuing nearly_full 1000 1 ≡ Err book.Lines
-  pub draft : issuing nearly_full 1000 2 ≡ Err book.Draft
-  pub accepted : IsOk (issuing nearly_full 999 2)
+  pub no_month : issuing year_end 8 287 1000 1 ≡ Err book.NoMonth
+  pub lines : issuing nearly_full 8 287 1000 1 ≡ Err book.Lines
+  pub of_another_group : issuing nearly_full 8 287 1000 2 ≡ Err book.Draft
+  pub of_another_month : issuing nearly_full 7 287 1000 2 ≡ Err book.Draft
+  pub of_other_entries : issuing nearly_full 7 288 1000 2 ≡ Err book.Draft
+  pub accepted : IsOk (issuing nearly_full 7 288 999 2)
 
 -- in an open month, and at a year end
 pub record ClosingInOrder : Type 0 where
