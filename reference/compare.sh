@@ -1,5 +1,5 @@
 #!/usr/bin/env bash
-# Compares a program with the reference on many journals.
+# Compares a program with the reference on many journals, and the single-pass program with it too.
 #
 #   reference/compare.sh [COUNT [SEED]] -- PROGRAM
 #   PROGRAM=path reference/compare.sh [COUNT [SEED]]
@@ -9,11 +9,12 @@
 # how many journals there are, 2000 if it is left out; 1000 are enough to meet all that is asked
 # for below. SEED is a number, and each has journals of its own.
 #
-# It builds the reference and the generator of journals, runs the reference's tests, and runs both
-# programs on each journal. It fails where what they print or their status differs on a journal,
-# where a status is not 0, where the journals are fewer than COUNT, and where a refusal that a
-# journal can meet in this book, or a field that 26 can tell, was not met by any journal. A run that
-# fails keeps its folder and prints its path. A program has ten seconds for a journal.
+# It builds the reference, the single-pass program and the generator of journals, runs the
+# reference's tests, and runs the three programs on each journal. It fails where what they print or
+# their status differs on a journal, where a status is not 0, where the journals are fewer than
+# COUNT, and where a refusal that a journal can meet in this book, or a field that 26 can tell, was
+# not met by any journal. A run that fails keeps its folder and prints its path. A program has ten
+# seconds for a journal.
 set -euo pipefail
 
 readonly refusals=(11 12 13 14 15 16 17 18 19 24 25 26 27)
@@ -57,6 +58,7 @@ build() {
 }
 build settle_two.rs tests --test
 build settle_two.rs reference -O
+build single_pass.rs single_pass -O
 build journals.rs journals -O
 
 if [[ $program == reference ]]; then
@@ -89,21 +91,27 @@ run_all "$work/reference" "$work/expected" &
 first=$!
 run_all "$program" "$work/printed" &
 second=$!
+run_all "$work/single_pass" "$work/passed" &
+third=$!
 wait "$first" || fail "the reference could not be run"
 wait "$second" || fail "$program could not be run"
+wait "$third" || fail "the single-pass program could not be run"
 
 # Every journal has to have been compared.
-for folder in in expected printed; do
+for folder in in expected printed passed; do
     files=$(find "$work/$folder" -type f -name '*.journal' | wc -l)
     ((files == count)) || fail "$folder has $files journals and not $count"
 done
 
-# What both programs printed has to be the same, and each status 0.
-if ! diff -rq "$work/expected" "$work/printed" >"$work/differences.txt"; then
+# What the programs printed has to be what the reference printed, and each status 0.
+agree() {
+    diff -rq "$work/expected" "$work/$1" >"$work/differences.txt" && return
     sed -n "s|^Files .*/\([^/ ]*\) differ\$|  $work/in/\1|p" "$work/differences.txt" >"$work/named.txt"
     head -n 20 "$work/named.txt" >&2
-    fail "$(wc -l <"$work/named.txt") journals differ, the first of which are named above"
-fi
+    fail "$2 differs on $(wc -l <"$work/named.txt") journals, the first of which are named above"
+}
+agree printed "$program"
+agree passed "the single-pass program"
 ended=$(cat "$work"/printed/*.journal | grep -acx 'status 0' || true)
 ((ended == count)) || fail "only $ended of $count runs end with status 0"
 
