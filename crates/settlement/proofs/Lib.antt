@@ -2,6 +2,7 @@ mod Billing
 mod Lengths
 mod Stepping
 mod Lining
+mod Parting
 mod Going
 mod Terms
 mod Beginning

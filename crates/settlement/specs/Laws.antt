@@ -1,5 +1,5 @@
 -- What holds of every run, by the lines alone.
-use Rattle.std.specs.Prelude.{◌≡◌, ℕ, ◌<◌, ◌+◌, ◌-◌, ◌≤◌, List, [], ◌++◌, drop, length, None, Option, Some, ◌⊎◌}
+use Rattle.std.specs.Prelude.{◌≡◌, ℕ, ◌<◌, ◌+◌, ◌-◌, ◌≤◌, List, [], ◌++◌, drop, length, None, Option, Some, ◌⊎◌, ◌↔◌}
 use Rattle.std.specs.List.{concat}
 use Rattle.balance.specs.Histories.{Event}
 use Rattle.group.specs.declared.group.Group.{Group}
@@ -10,9 +10,15 @@ use Rattle.settlement.specs.Accepting.{Accepted, ReadFirst}
 use Rattle.settlement.specs.Faults.{fault_at}
 use Rattle.settlement.specs.Runs.{IsJournal, LinesRun, NotBegun, Ran, RunsOver, after_text}
 use Rattle.settlement.specs.Stopping.{IsReason}
-use Rattle.settlement.specs.Texts.{text_lines}
+use Rattle.settlement.specs.Texts.{AreLines, text_lines}
 use Rattle.settlement.specs.declared.fault.RunFault.{RunFault}
 use Rattle.settlement.specs.declared.fault.RunRefusal.{RunRefusal}
+
+-- the lines of a text are those that are the text when they are joined, where a line feed stands only at the end of a line,
+-- and at the end of each but perhaps the last
+abbrev pub LinesMakeText : Type 0
+LinesMakeText =
+    (text : List ℕ) (lines : List (List ℕ)) → (lines ≡ text_lines text) ↔ ((concat lines ≡ text) × AreLines lines)
 
 -- of so many lines, which are counted from a number on, all are accepted; or the fault is at the one behind those accepted
 abbrev pub StopsBehind : (first accepted all : ℕ) → Option RunFault → Type 0

@@ -1,5 +1,17 @@
 //! What holds of every run, as laws.
-ghost use Rattle.settlement.specs.Laws.{JournalsGoOn, OneOutcome, OutputInOrder, RunsGoOn, RunsStop};
+ghost use Rattle.settlement.specs.Laws.{
+  JournalsGoOn,
+  LinesMakeText,
+  OneOutcome,
+  OutputInOrder,
+  RunsGoOn,
+  RunsStop,
+};
+
+/// The lines of a text, joined, are the text; a line feed stands only at the end of a line, and at the end of each but perhaps the last.
+pub fn lines_make_text()
+    ensures { LinesMakeText }
+{}
 
 /// The output of a run is the line of names and then the texts of the issues and year closings before its fault, in order; or it stops at line 1 and writes nothing.
 pub fn output_in_order()
