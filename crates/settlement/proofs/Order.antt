@@ -6,11 +6,11 @@ use Rattle.balance.specs.Histories.{Closing, Drawing, Entering, Event, Issuing}
 use Rattle.group.proofs.Stepping.{and_then_ok, made_ok}
 use Rattle.group.specs.Results.{made}
 use Rattle.group.specs.declared.group.Group.{Group}
-use Rattle.journal.specs.Lines.{LineRead}
+use Rattle.journal.specs.Lines.{IsLine, LineRead}
 use Rattle.ledger.specs.declared.bill.Bill.{Bill}
 use Rattle.journal.specs.declared.line.Line.{Line}
 use Rattle.journal.specs.declared.line.Line.TheVariants.{Enter, Issue, Year}
-use Rattle.journal.specs.declared.refusal.ReadRefusal.{ReadRefusal}
+use Rattle.journal.specs.declared.refusal.LineFault.{LineFault}
 use Rattle.output.specs.Lines.{year_line}
 use Rattle.steps.specs.Drafts.{Stamp, drawn, issued}
 use Rattle.steps.specs.Entries.{after_entry}
@@ -72,7 +72,7 @@ stop_more : (first accepted all : ℕ) (fault : Option RunFault) → StopsBehind
 stop_more first many all None is = omega (arith, is)
 stop_more first many all (Some fault) is = (omega (arith, is.0), omega (arith, is.1))
 
-in_order_more : (share : Share) (prices : ℕ → Prices) (first : ℕ) (text_line : List ℕ) (rest : List (List ℕ)) (group new : Group) (text : List ℕ) (line : Line) (later : Ran) → LineRead text_line (Ok line) → done_by share prices line group ≡ Ok (text, new) → InOrder share prices (first + 1) rest new later → InOrder share prices first (text_line ∷ rest) group (after_text text later)
+in_order_more : (share : Share) (prices : ℕ → Prices) (first : ℕ) (text_line : List ℕ) (rest : List (List ℕ)) (group new : Group) (text : List ℕ) (line : Line) (later : Ran) → IsLine text_line line → done_by share prices line group ≡ Ok (text, new) → InOrder share prices (first + 1) rest new later → InOrder share prices first (text_line ∷ rest) group (after_text text later)
 in_order_more share prices first text_line rest group new text line later read done order =
     let all = more share prices line order.accepted group new later.group text order.texts order.calls done order.taken in
     record {
@@ -96,10 +96,10 @@ none_in_order share prices first line lines group refusal = record {
   stop = (omega arith, omega arith);
 }
 
-goes_in_order : (share : Share) (prices : ℕ → Prices) (room first : ℕ) (text_line : List ℕ) (rest : List (List ℕ)) (reading : Result Line ReadRefusal) (group : Group) (Rest : List ℕ → Group → Ran → Type 0) (step : Result (List ℕ × Group) RunRefusal) (ran : Ran) → LineRead text_line reading → after_reading share prices room reading group ≡ step → GoesOn first group step Rest ran → ((text : List ℕ) (new : Group) (later : Ran) → Rest text new later → InOrder share prices (first + 1) rest new later) → InOrder share prices first (text_line ∷ rest) group ran
+goes_in_order : (share : Share) (prices : ℕ → Prices) (room first : ℕ) (text_line : List ℕ) (rest : List (List ℕ)) (reading : Result Line LineFault) (group : Group) (Rest : List ℕ → Group → Ran → Type 0) (step : Result (List ℕ × Group) RunRefusal) (ran : Ran) → LineRead text_line first reading → after_reading share prices room reading group ≡ step → GoesOn first group step Rest ran → ((text : List ℕ) (new : Group) (later : Ran) → Rest text new later → InOrder share prices (first + 1) rest new later) → InOrder share prices first (text_line ∷ rest) group ran
 goes_in_order share prices room first text_line rest reading group Rest (Ok done) ran read is (later, behind, comes) further =
     let line = through share prices room reading group done.1 done.0 is in
-    let known = subst (λ (r : Result Line ReadRefusal). LineRead text_line r) line.is read in
+    let known = subst (λ (r : Result Line LineFault). LineRead text_line first r) line.is read in
     subst (λ (r : Ran). InOrder share prices first (text_line ∷ rest) group r) (sym comes)
     (in_order_more share prices first text_line rest group done.1 done.0 line.line later known line.done (further done.0 done.1 later behind))
 goes_in_order share prices room first text_line rest reading group Rest (Err refusal) ran read is comes further =

@@ -4,7 +4,7 @@ ghost use Rattle.settlement.specs.Faults.{fault_of, field_of, layer_of, number_o
 ghost use Rattle.settlement.specs.declared.fault.RunRefusal.TheVariants as refused;
 
 use group::refusal::BookRefusal;
-use journal::refusal::ReadRefusal;
+use journal::refusal::{LineFault, ReadRefusal};
 use output::fault::{Fault, Layer};
 
 /// Why a run stops.
@@ -55,11 +55,11 @@ impl RunRefusal {
 }
 
 // By hand, here and below: a derive would not state the case that `?` makes.
-impl From<ReadRefusal> for RunRefusal {
-    ghost from_gives = { λ refusal r. r ≡ refused.Line refusal };
+impl From<LineFault> for RunRefusal {
+    ghost from_gives = { λ fault r. r ≡ refused.Line fault.refusal };
 
-    fn from(refusal: ReadRefusal) -> RunRefusal {
-        RunRefusal::Line(refusal)
+    fn from(fault: LineFault) -> RunRefusal {
+        RunRefusal::Line(fault.refusal)
     }
 }
 
