@@ -10,7 +10,7 @@ use calendar::days::Month;
 use fields::marks::{COMMA, LINE_FEED};
 
 /// What stands between two commas of a line that is to be written.
-#[derive(Clone, Copy)]
+#[derive(Clone, Copy, Debug)]
 pub enum Cell<'a> {
     /// Nothing, told by a hyphen.
     Missing,

@@ -1,5 +1,5 @@
 -- The commas part a text in one way only.
-use Rattle.std.proofs.Common.{◌≡◌, ℕ, suc, true, List, [], ◌∷◌, ◌++◌, length, is_some, Some, None, Option, sym, refl, ap, ◌∙◌, subst, ap₂, arith, Bor}
+use Rattle.std.proofs.Common.{◌≡◌, ℕ, suc, ◌<◌, true, List, [], ◌∷◌, ◌++◌, length, is_some, Some, None, Option, sym, refl, ap, ◌∙◌, subst, ap₂, arith, Bor}
 use Rattle.fields.proofs.Lacking.{cut_once, no_mark}
 use Rattle.fields.specs.Cuts.{Cuts, Lacks}
 use Rattle.fields.specs.Partings.{Parted}
@@ -26,6 +26,11 @@ one_more {bs} {field} {rest} {text} {next} {texts} cut same is = subst (λ t. Pa
   commaless = All-cons (Lacks 44) field (next ∷ texts) cut.1 is.commaless;
   whole = cut.0 ∙ ap (λ r. field ++ (44 ∷ r)) is.whole;
 })
+
+-- the same of whatever texts there are, if there are any
+pub cut_more : {bs field rest : List ℕ} → (bs ≡ field ++ (44 ∷ rest)) × Lacks 44 field → (texts : List (List ℕ)) → 0 < length texts → Parted texts rest → Parted (field ∷ texts) bs
+cut_more {bs} {field} {rest} cut [] some is = absurd (omega arith)
+cut_more {bs} {field} {rest} cut (next ∷ texts) some is = one_more cut refl is
 
 -- no so many texts are parted by the commas of the bytes
 abbrev pub NotIn : ℕ → List ℕ → Type 0

@@ -2,6 +2,7 @@
 use Rattle.std.specs.Prelude.{◌≡◌, ℕ, zero, suc, ◌<◌, ◌≤◌, true, ◌⊎◌, List, [], ◌∷◌, length, codes, Option, MatchOption, Result, MatchResult, ◌≢◌, slice_index, slice_index_or}
 use Rattle.calendar.specs.Dates.{is_date}
 use Rattle.calendar.specs.declared.date.Date.{Date}
+use Rattle.fields.specs.Bytes.{hyphen}
 use Rattle.fields.specs.Texts.{date_text}
 use Rattle.fields.specs.declared.field.Field.{Field}
 use Rattle.fields.specs.declared.field.WrongField.{WrongField}
@@ -20,7 +21,9 @@ pub record NumberForm (bs : List ℕ) : Type 0 where
 
 -- such a number, or a minus before one that is not 0
 abbrev pub SignedForm : Form
-SignedForm bs = NumberForm bs ⊎ ((number : List ℕ) × ((bs ≡ 45 ∷ number) × NumberForm number × (number ≢ codes "0")))
+SignedForm bs =
+    NumberForm bs
+    ⊎ ((number : List ℕ) × ((bs ≡ hyphen ∷ number) × NumberForm number × (number ≢ codes "0")))
 
 -- a date of the calendar, as 2024-01-31
 abbrev pub DateForm : Form
@@ -43,11 +46,13 @@ ValueRead {X} s bs r =
     MatchOption r ((s.form bs → ⊥) × ((x : X) → s.fine x → bs ≢ s.text x))
     (λ x. s.form bs × (s.fine x × (bs ≡ s.text x)))
 
--- what the reader of a column answers: such a value of the field, or the field's number
+-- what the reader of a column answers: such a value of the field, or the line and the number of the wrong field
 abbrev pub ColumnReads : {X : Type 0} → Spelling X → Field → Result X WrongField → Type 0
 ColumnReads {X} s field r =
     MatchResult r (λ x. s.form field.part.now × (s.fine x × (field.part.now ≡ s.text x)))
-    (λ wrong. (wrong.number ≡ field.number) × (s.form field.part.now → ⊥) × ((x : X) → s.fine x → field.part.now ≢ s.text x))
+    (λ wrong.
+    (wrong.line ≡ field.line) × (wrong.number ≡ field.number)
+    × (s.form field.part.now → ⊥) × ((x : X) → s.fine x → field.part.now ≢ s.text x))
 
 -- the text at this place has not its form, and every one before it has
 abbrev pub FirstWrong : List Form → List (List ℕ) → ℕ → Type 0

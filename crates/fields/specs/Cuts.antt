@@ -8,7 +8,8 @@ Lacks mark bs = (k : ℕ) → k < length bs → slice_index bs k ≢ mark
 
 -- the text before the first mark and the text after it, or none where no byte is the mark
 abbrev pub Cuts : ℕ → List ℕ → Option (Bor (List ℕ) × Bor (List ℕ)) → Type 0
-Cuts mark bs r = MatchOption r (Lacks mark bs) (λ p. (bs ≡ p.0.now ++ (mark ∷ p.1.now)) × Lacks mark p.0.now)
+Cuts mark bs r =
+    MatchOption r (Lacks mark bs) (λ p. (bs ≡ p.0.now ++ (mark ∷ p.1.now)) × Lacks mark p.0.now)
 
 -- the text before the byte at i and the text after it
 pub record Around (bs : List ℕ) (i : ℕ) (p : Bor (List ℕ) × Bor (List ℕ)) : Type 0 where

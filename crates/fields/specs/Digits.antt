@@ -9,12 +9,15 @@ Digit c r = SomeIff r (IsInRange 48 57 c) (c - 48)
 
 -- the number that two digits write
 abbrev pub TwoDigits : (tens ones : ℕ) → Option ℕ → Type 0
-TwoDigits tens ones r = SomeIff r (IsInRange 48 57 tens × IsInRange 48 57 ones) ((tens - 48) * 10 + (ones - 48))
+TwoDigits tens ones r =
+    SomeIff r (IsInRange 48 57 tens × IsInRange 48 57 ones) ((tens - 48) * 10 + (ones - 48))
 
 -- the number that four digits write
 abbrev pub FourDigits : (thousands hundreds tens ones : ℕ) → Option ℕ → Type 0
 FourDigits thousands hundreds tens ones r =
-    SomeIff r (IsInRange 48 57 thousands × IsInRange 48 57 hundreds × IsInRange 48 57 tens × IsInRange 48 57 ones)
+    SomeIff r
+    (IsInRange 48 57 thousands × IsInRange 48 57 hundreds
+    × IsInRange 48 57 tens × IsInRange 48 57 ones)
     ((thousands - 48) * 1000 + (hundreds - 48) * 100 + (tens - 48) * 10 + (ones - 48))
 
 -- the one number of 64 bits whose text the bytes are, or none where there is no such number

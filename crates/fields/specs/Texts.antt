@@ -3,6 +3,7 @@ use Rattle.std.specs.Prelude.{ℕ, ◌+◌, ◌/◌, ◌%◌, ◌<◌, List, [],
 use Rattle.calendar.specs.Dates.{date_of_day}
 use Rattle.calendar.specs.Gregorian.{year_of}
 use Rattle.calendar.specs.declared.date.Date.{Date}
+use Rattle.fields.specs.Bytes.{hyphen}
 
 -- the last two digits of a number
 abbrev pub two : ℕ → List ℕ
@@ -14,7 +15,7 @@ four n = two (n / 100) ++ two n
 
 -- four digits of the year, two of the month and two of the day, with hyphens between them
 abbrev pub date_text : Date → List ℕ
-date_text d = four d.year ++ (45 ∷ (two d.month ++ (45 ∷ two d.day)))
+date_text d = four d.year ++ (hyphen ∷ (two d.month ++ (hyphen ∷ two d.day)))
 
 -- the parts have no more digits than the text of a date has, whether or not there is such a date
 abbrev pub Spellable : Date → Type 0
@@ -26,4 +27,4 @@ day_text day = date_text (date_of_day day)
 
 -- four digits of the year and two of the month, which is counted from January 2000, with a hyphen between them
 abbrev pub month_text : ℕ → List ℕ
-month_text month = four (year_of month) ++ (45 ∷ two (month % 12 + 1))
+month_text month = four (year_of month) ++ (hyphen ∷ two (month % 12 + 1))

@@ -23,7 +23,7 @@ pub trait Column: Copy {
     fn of(part: &[u8]) -> Option<Self>
         ensures { ValueRead spelling part.now result };
 
-    /// The value that the field spells, or the field's number where it has not the form of the column.
+    /// The value that the field spells, or that the field is wrong where it has not the form of the column.
     final fn read(field: Field<'_>) -> Result<Self, WrongField>
         ensures { ColumnReads spelling field.entry result }
     {
@@ -32,7 +32,7 @@ pub trait Column: Copy {
 }
 
 /// A number; a column holds those of up to nine digits.
-#[derive(Clone, Copy)]
+#[derive(Clone, Copy, Debug)]
 pub struct Number(pub u32);
 
 impl Column for Number {
@@ -59,7 +59,7 @@ fn short_number(part: &[u8]) -> Option<u32>
 }
 
 /// A signed number; a column holds those of up to nine digits.
-#[derive(Clone, Copy)]
+#[derive(Clone, Copy, Debug)]
 pub struct Signed(pub i32);
 
 impl Column for Signed {
@@ -86,7 +86,7 @@ fn short_signed(part: &[u8]) -> Option<i32>
 }
 
 /// A day, told by its date.
-#[derive(Clone, Copy)]
+#[derive(Clone, Copy, Debug)]
 pub struct Dated(pub Day);
 
 impl Column for Dated {
@@ -105,7 +105,7 @@ impl Column for Dated {
 }
 
 /// Nothing, told by a hyphen.
-#[derive(Clone, Copy)]
+#[derive(Clone, Copy, Debug)]
 pub struct Missing;
 
 impl Column for Missing {

@@ -5,7 +5,7 @@ ghost use Rattle.fields.specs.Tokens.{Told, Tokened};
 use crate::token::{Token, token_of};
 
 /// A part of a text, with its line and its number in that line, both counted from 1.
-#[derive(Clone, Copy)]
+#[derive(Clone, Copy, Debug)]
 pub struct Field<'a> {
     /// The line.
     pub line: usize,
@@ -15,10 +15,12 @@ pub struct Field<'a> {
     pub part: &'a [u8],
 }
 
-/// Which field of a line is wrong.
+/// Where a field stands that has not its form.
 #[derive(Clone, Copy, PartialEq, Eq, Debug)]
 pub struct WrongField {
-    /// The number, counted from 1.
+    /// The line, counted from 1.
+    pub line: usize,
+    /// The number of the field in its line, counted from 1.
     pub number: usize,
 }
 
@@ -39,9 +41,11 @@ impl<'a> Field<'a> {
 
     /// That it is this field that is wrong.
     pub fn wrong(self) -> WrongField
-        ensures { result.number ≡ self.entry.number }
+        ensures line { result.line ≡ self.entry.line }
+        ensures number { result.number ≡ self.entry.number }
     {
         WrongField {
+            line: self.line,
             number: self.number,
         }
     }

@@ -1,7 +1,9 @@
 //! Finds the commas and the line feeds of a text.
 ghost use Rattle.std.specs.Prelude.{◌≡◌, ◌==◌, ◌<◌, length};
+ghost use Rattle.fields.specs.Bytes.{comma, line_feed};
 ghost use Rattle.fields.specs.Cuts.{Around, Cuts};
 ghost use Rattle.fields.specs.Marks.{Next, NextLineFeed};
+ghost use Rattle.fields.specs.Partings.{CutFrom, CutInto};
 ghost use Rattle.std.specs.List.{position_from};
 
 use memchr::memchr;
@@ -17,16 +19,43 @@ pub const HYPHEN: u8 = b'-';
 
 /// The text before the first comma and the text after it, or none where there is no comma.
 pub fn cut(text: &[u8]) -> Option<(&[u8], &[u8])>
-    ensures { Cuts 44 text.now result }
+    ensures { Cuts comma text.now result }
 {
     let i = first_comma(text)?;
     Some(around(text, i))
 }
 
+// A slice and no array as the answer: the borrow checker covers no array of references whose length is a parameter.
+/// Cuts a text at its commas into just as many fields as the slice has; or answers none, with the slice as it was, where the text has more or fewer.
+pub fn cut_into<'a>(text: &'a [u8], fields: &mut [&'a [u8]]) -> Option<()>
+    requires { 0 < length fields.old }
+    ensures { CutInto text.now fields.old result fields.new }
+{
+    cut_from(text, fields, 0)
+}
+
+// The same for the fields from `at` on. Each is written once those after it are, so that a text with more or fewer writes none.
+fn cut_from<'a>(text: &'a [u8], fields: &mut [&'a [u8]], at: usize) -> Option<()>
+    requires { at < length fields.old }
+    ensures { CutFrom text.now at fields.old result fields.new }
+{
+    if at + 1 == fields.len() {
+        if cut(text).is_some() {
+            return None;
+        }
+        fields[at] = text;
+        return Some(());
+    }
+    let (field, rest) = cut(text)?;
+    cut_from(rest, fields, at + 1)?;
+    fields[at] = field;
+    Some(())
+}
+
 // Not one `cut` with the mark as a parameter: the line feed has one search of its own, which every reader of lines goes through.
 /// The first line without its line feed and the text after it, or none where no line ends.
 pub fn line(text: &[u8]) -> Option<(&[u8], &[u8])>
-    ensures { Cuts 10 text.now result }
+    ensures { Cuts line_feed text.now result }
 {
     let i = next_line_feed(text, 0)?;
     Some(around(text, i))
@@ -58,7 +87,7 @@ fn next(text: &[u8], from: usize, mark: u8) -> Option<usize>
 
 // The index of the first comma. Its bytes are tested one by one: a field is short, and `memchr` takes longer to start.
 fn first_comma(text: &[u8]) -> Option<usize>
-    ensures { result ≡ position_from (λ byte. byte == 44) 0 text.now }
+    ensures { result ≡ position_from (λ byte. byte == comma) 0 text.now }
 {
     text.iter().position(|byte| *byte == COMMA)
 }

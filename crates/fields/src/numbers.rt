@@ -59,7 +59,8 @@ fn spelled(part: &[u8]) -> Option<u64>
 
 // The number of 64 bits that the bytes write, where all are digits.
 fn value_of(digits: &[u8]) -> Option<u64>
-    ensures { SomeIff result (AllDigits 10 digits.now × (digits_value 10 digits.now < 2 ^ 64)) (digits_value 10 digits.now) }
+    ensures { let value = digits_value 10 digits.now in
+        SomeIff result (AllDigits 10 digits.now × (value < 2 ^ 64)) value }
 {
     let mut value: u64 = 0;
     for byte in digits {
@@ -70,7 +71,8 @@ fn value_of(digits: &[u8]) -> Option<u64>
 
 // The number of 64 bits that the digits of `front` write with the byte behind them, where it is a digit.
 fn followed(front: u64, byte: u8) -> Option<u64>
-    ensures { SomeIff result (IsInRange 48 57 byte × (front * 10 + (byte - 48) < 2 ^ 64)) (front * 10 + (byte - 48)) }
+    ensures { let value = front * 10 + (byte - 48) in
+        SomeIff result (IsInRange 48 57 byte × (value < 2 ^ 64)) value }
 {
     let ones = digit(byte)?;
     front.checked_mul(TEN)?.checked_add(ones as u64)

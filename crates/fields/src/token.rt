@@ -5,7 +5,7 @@ use crate::marks::HYPHEN;
 use crate::numbers::{NINE, ZERO};
 
 /// A part of a text by what it looks like, which it need not be.
-#[derive(Clone, Copy)]
+#[derive(Clone, Copy, Debug)]
 pub enum Token<'a> {
     /// A hyphen alone, for what is missing.
     Missing,

@@ -1,5 +1,5 @@
 -- What the reader answers of a line's text.
-use Rattle.std.proofs.Common.{All, ◌≡◌, ℕ, zero, suc, ◌≤◌, List, [], ◌∷◌, length, ◌↔◌, IsOk, Ok, Err, decimal, Result, sym, refl, ap, ◌∙◌, subst, inl, inr, ⊎_elim, arith}
+use Rattle.std.proofs.Common.{All, ◌≡◌, ℕ, zero, suc, ◌≤◌, List, [], ◌∷◌, length, ◌↔◌, IsOk, Ok, Err, decimal, Result, sym, refl, ap, ap₂, ◌∙◌, subst, inl, inr, ⊎_elim, arith}
 use Rattle.fields.proofs.Forming.{date_form, number_form, signed_form}
 use Rattle.fields.proofs.Lacking.{decimal_lacks, lacks_by_test, signed_lacks}
 use Rattle.fields.proofs.Parting.{one_parting}
@@ -22,6 +22,7 @@ use Rattle.journal.specs.declared.kind.Kind.{Kind}
 use Rattle.journal.specs.declared.kind.Kind.TheVariants as kinds
 use Rattle.journal.specs.declared.line.Line.{Line}
 use Rattle.journal.specs.declared.line.Line.TheVariants.{Enter, Issue, Year}
+use Rattle.journal.specs.declared.refusal.LineFault.{LineFault}
 use Rattle.journal.specs.declared.refusal.ReadRefusal.{ReadRefusal}
 use Rattle.journal.specs.declared.refusal.ReadRefusal.TheVariants as refusals
 
@@ -136,9 +137,10 @@ not_refused bs (refusals.Form field) has wrong =
 -- ---- the answers of the reader
 
 -- a line is read exactly where the bytes have the form of one
-pub read_exactly : (bs : List ℕ) (r : Result Line ReadRefusal) → LineRead bs r → IsOk r ↔ HasForm bs
-read_exactly bs (Ok line) is = ((λ read. has_form line bs is.0 is.1), λ has. refl)
-read_exactly bs (Err refusal) is = ((λ read. absurd (false≢true read)), λ has. absurd (not_refused bs refusal has is))
+pub read_exactly : (bs : List ℕ) (number : ℕ) (r : Result Line LineFault) → LineRead bs number r → IsOk r ↔ HasForm bs
+read_exactly bs number (Ok line) is = ((λ read. has_form line bs is.0 is.1), λ has. refl)
+read_exactly bs number (Err fault) is =
+    ((λ read. absurd (false≢true read)), λ has. absurd (not_refused bs fault.refusal has is.1))
 
 same_text : (l m : Line) → Writable l → Writable m → line_text l ≡ line_text m → l ≡ m
 same_text l m fine too e =
@@ -181,8 +183,12 @@ refused_once bs (refusals.Form m) (refusals.Form n) (texts, is) too = ap refusal
         wrong_once (first ∷ rest) m n is.1 (subst (λ texts. WrongAt texts n) (sym same) too.1.1)
 
 -- the bytes leave one answer
-pub one_answer : (bs : List ℕ) (r s : Result Line ReadRefusal) → LineRead bs r → LineRead bs s → r ≡ s
-one_answer bs (Ok l) (Ok m) is too = ap Ok (same_text l m is.0 too.0 (sym is.1 ∙ too.1))
-one_answer bs (Ok line) (Err refusal) is refused = absurd (not_refused bs refusal (has_form line bs is.0 is.1) refused)
-one_answer bs (Err refusal) (Ok line) refused is = absurd (not_refused bs refusal (has_form line bs is.0 is.1) refused)
-one_answer bs (Err a) (Err b) is too = ap Err (refused_once bs a b is too)
+pub one_answer : (bs : List ℕ) (number : ℕ) (r s : Result Line LineFault) → LineRead bs number r → LineRead bs number s → r ≡ s
+one_answer bs number (Ok l) (Ok m) is too = ap Ok (same_text l m is.0 too.0 (sym is.1 ∙ too.1))
+one_answer bs number (Ok line) (Err fault) is refused =
+    absurd (not_refused bs fault.refusal (has_form line bs is.0 is.1) refused.1)
+one_answer bs number (Err fault) (Ok line) refused is =
+    absurd (not_refused bs fault.refusal (has_form line bs is.0 is.1) refused.1)
+one_answer bs number (Err a) (Err b) is too =
+    ap₂ (λ line refusal. Err (record { line = line; refusal = refusal })) (is.0 ∙ sym too.0)
+    (refused_once bs a.refusal b.refusal is.1 too.1)

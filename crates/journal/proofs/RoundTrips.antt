@@ -2,7 +2,7 @@
 use Rattle.std.proofs.Common.{◌≡◌, ℕ, List, length, take, Ok, Err, Result, sym, ap, ◌∙◌, arith}
 use Rattle.cells.specs.Cells.{overwritten}
 use Rattle.journal.proofs.Forms.{one_answer}
-use Rattle.journal.specs.Lines.{LineRead, line_text}
+use Rattle.journal.specs.Lines.{IsLine, line_text}
 use Rattle.journal.specs.Writing.{LineWritten, ReadThenWritten, WrittenThenRead}
 use Rattle.journal.specs.declared.line.Line.{Line}
 use Rattle.journal.specs.declared.refusal.WriteRefusal.{WriteRefusal}
@@ -15,8 +15,9 @@ front_is text old new end long e = ap (take end) e ∙ take_at text _ end (sym l
 
 pub written_then_read : (line : Line) (old new : List ℕ) (r : Result ℕ WriteRefusal) → LineWritten line old new r → WrittenThenRead line new r
 written_then_read line old new (Ok end) is =
-    let read : LineRead (take end new) (Ok line) = (is.0, front_is (line_text line) old new end is.2 is.3) in
-    (read, λ answer other. one_answer (take end new) answer (Ok line) other read)
+    λ number.
+    let read : IsLine (take end new) line = (is.0, front_is (line_text line) old new end is.2 is.3) in
+    (read, λ answer other. one_answer (take end new) number answer (Ok line) other read)
 written_then_read line old new (Err Form) is = tt
 written_then_read line old new (Err Room) is = tt
 

@@ -11,6 +11,7 @@ use Rattle.journal.specs.declared.kind.Kind.{Kind}
 use Rattle.journal.specs.declared.kind.Kind.TheVariants as kinds
 use Rattle.journal.specs.declared.line.Line.{Line}
 use Rattle.journal.specs.declared.line.Line.TheVariants.{Enter, Issue, Year}
+use Rattle.journal.specs.declared.refusal.LineFault.{LineFault}
 use Rattle.journal.specs.declared.refusal.ReadRefusal.{ReadRefusal}
 use Rattle.journal.specs.declared.refusal.ReadRefusal.TheVariants as refusals
 
@@ -18,8 +19,10 @@ use Rattle.journal.specs.declared.refusal.ReadRefusal.TheVariants as refusals
 abbrev pub forms : Kind → List Form
 forms kinds.Reading = NumberForm ∷ ZoneForm ∷ FlowForm ∷ NumberForm ∷ MissingForm ∷ DateForm ∷ []
 forms kinds.Change = NumberForm ∷ ZoneForm ∷ FlowForm ∷ NumberForm ∷ NumberForm ∷ DateForm ∷ []
-forms kinds.Correction = NumberForm ∷ ZoneForm ∷ FlowForm ∷ SignedForm ∷ MissingForm ∷ MissingForm ∷ []
-forms kinds.Payment = NumberForm ∷ MissingForm ∷ MissingForm ∷ NumberForm ∷ MissingForm ∷ MissingForm ∷ []
+forms kinds.Correction =
+    NumberForm ∷ ZoneForm ∷ FlowForm ∷ SignedForm ∷ MissingForm ∷ MissingForm ∷ []
+forms kinds.Payment =
+    NumberForm ∷ MissingForm ∷ MissingForm ∷ NumberForm ∷ MissingForm ∷ MissingForm ∷ []
 forms kinds.Issue = replicate 6 MissingForm
 forms kinds.Year = replicate 6 MissingForm
 
@@ -65,9 +68,12 @@ Short n = n ≤ 999999999
 
 -- the numbers of the line have up to nine digits, and its day is one of the calendar
 abbrev pub Writable : Line → Type 0
-Writable (Enter (Reading register day value)) = Short register.place × Short value × (day ≤ 36524)
-Writable (Enter (Change register day value start)) = Short register.place × Short value × Short start × (day ≤ 36524)
-Writable (Enter (Correction register quantity)) = Short register.place × Short (unsigned_abs quantity)
+Writable (Enter (Reading register day value)) =
+    Short register.place × Short value × (day ≤ 36524)
+Writable (Enter (Change register day value start)) =
+    Short register.place × Short value × Short start × (day ≤ 36524)
+Writable (Enter (Correction register quantity)) =
+    Short register.place × Short (unsigned_abs quantity)
 Writable (Enter (Payment place drams)) = Short place × Short drams
 Writable Issue = Unit {0}
 Writable Year = Unit {0}
@@ -76,14 +82,20 @@ Writable Year = Unit {0}
 abbrev pub WrongAt : List (List ℕ) → ℕ → Type 0
 WrongAt [] number = ⊥
 WrongAt (first ∷ rest) number =
-    ((number ≡ 1) × (KindForm first → ⊥)) ⊎ ((kind : Kind) × ((first ≡ kind_word kind) × WrongOf (forms kind) rest number))
+    ((number ≡ 1) × (KindForm first → ⊥))
+    ⊎ ((kind : Kind) × ((first ≡ kind_word kind) × WrongOf (forms kind) rest number))
 
 -- what a refusal of the reader of a line stands for
 abbrev pub Refused : List ℕ → ReadRefusal → Type 0
 Refused bs refusals.Fields = (texts : List (List ℕ)) → Fields texts bs → ⊥
 Refused bs (refusals.Form field) = (texts : List (List ℕ)) × (Fields texts bs × WrongAt texts field)
 
--- what the reader of a line answers: the line whose text the bytes are, or why they are no line's
-abbrev pub LineRead : List ℕ → Result Line ReadRefusal → Type 0
-LineRead bs (Ok line) = Writable line × (bs ≡ line_text line)
-LineRead bs (Err refusal) = Refused bs refusal
+-- the bytes are the text of this line, whose numbers and day are in range
+abbrev pub IsLine : List ℕ → Line → Type 0
+IsLine bs line = Writable line × (bs ≡ line_text line)
+
+-- what the reader of the line with this number answers: the line whose text the bytes are, or the number and why they
+-- are no line's
+abbrev pub LineRead : List ℕ → (number : ℕ) → Result Line LineFault → Type 0
+LineRead bs number (Ok line) = IsLine bs line
+LineRead bs number (Err fault) = (fault.line ≡ number) × Refused bs fault.refusal

@@ -1,5 +1,6 @@
--- The refusals of the readers and the writers of lines, with their numbers.
-use Rattle.std.specs.Prelude.{ℕ}
+-- The refusals of the readers and the writers of lines: the number of each, and its words.
+use Rattle.std.specs.Prelude.{ℕ, List, ◌++◌, codes, decimal}
+use Rattle.journal.specs.declared.refusal.LineFault.{LineFault}
 use Rattle.journal.specs.declared.refusal.ReadRefusal.{ReadRefusal}
 use Rattle.journal.specs.declared.refusal.ReadRefusal.TheVariants.{Fields, Form}
 use Rattle.journal.specs.declared.refusal.WriteRefusal.{WriteRefusal}
@@ -10,7 +11,29 @@ abbrev pub read_number : ReadRefusal → ℕ
 read_number Fields = 25
 read_number (Form field) = 26
 
+-- the same refusal in words
+abbrev pub read_words : ReadRefusal → List ℕ
+read_words Fields = codes "this is no whole line of seven fields"
+read_words (Form field) = codes "this is not written as its place in the line asks"
+
+-- words behind the number of their line, and behind the field where one is meant
+abbrev pub placed : (line : ℕ) → ReadRefusal → (words : List ℕ) → List ℕ
+placed line Fields words = codes "line " ++ (decimal line ++ (codes ": " ++ words))
+placed line (Form field) words =
+    codes "line "
+    ++ (decimal line ++ (codes ", field " ++ (decimal field ++ (codes ": " ++ words))))
+
+-- the fault of a line in words: where and why it is not read
+abbrev pub fault_told : LineFault → List ℕ
+fault_told fault = placed fault.line fault.refusal (read_words fault.refusal)
+
 -- the number of a refusal of a writer of a line
 abbrev pub write_number : WriteRefusal → ℕ
 write_number writing.Form = 26
 write_number writing.Room = 27
+
+-- the same refusal in words
+abbrev pub write_words : WriteRefusal → List ℕ
+write_words writing.Form =
+    codes "a number of the line has more than nine digits, or its day comes after 2099"
+write_words writing.Room = codes "no room is left for 64 bytes, the most that a line takes"

@@ -1,5 +1,6 @@
 -- The seven fields of a line.
 use Rattle.std.specs.Prelude.{All, ◌≡◌, ℕ, ◌+◌, List, [], ◌∷◌, length, Option, MatchOption}
+use Rattle.fields.specs.Bytes.{comma}
 use Rattle.fields.specs.Columns.{FirstWrong, Form}
 use Rattle.fields.specs.Cuts.{Lacks}
 use Rattle.fields.specs.Rows.{line_of}
@@ -28,14 +29,16 @@ pub record OnLine (line : ℕ) (row : Row) : Type 0 where
 -- the texts are the seven fields of the line: none has a comma, commas part them, and a line feed ends the last
 pub record Fields (texts : List (List ℕ)) (bs : List ℕ) : Type 0 where
   pub seven : length texts ≡ 7
-  pub commaless : All (Lacks 44) texts
+  pub commaless : All (Lacks comma) texts
   pub whole : bs ≡ line_of texts
 
 -- the fields of the line, or none where it has not its line feed or not seven fields
 abbrev pub SevenFields : List ℕ → ℕ → Option Row → Type 0
 SevenFields bs line r =
-    MatchOption r ((texts : List (List ℕ)) → Fields texts bs → ⊥) (λ row. Fields (texts_of row) bs × OnLine line row)
+    MatchOption r ((texts : List (List ℕ)) → Fields texts bs → ⊥)
+    (λ row. Fields (texts_of row) bs × OnLine line row)
 
 -- the number of the first field after the kind that has not its form
 abbrev pub WrongOf : List Form → List (List ℕ) → ℕ → Type 0
-WrongOf forms texts number = (place : ℕ) × ((number ≡ place + 2) × FirstWrong forms texts place)
+WrongOf forms texts number =
+    (place : ℕ) × ((number ≡ place + 2) × FirstWrong forms texts place)

@@ -16,35 +16,42 @@ use Rattle.journal.specs.declared.row.Row.{Row}
 -- the bytes are the row, or none where they are not seven texts parted by commas
 abbrev pub SevenParts : List ℕ → ℕ → Option Row → Type 0
 SevenParts bs line r =
-    MatchOption r ((texts : List (List ℕ)) → length texts ≡ 7 → Parted texts bs → ⊥) (λ row. Parted (texts_of row) bs × OnLine line row)
+    MatchOption r ((texts : List (List ℕ)) → length texts ≡ 7 → Parted texts bs → ⊥)
+    (λ row. Parted (texts_of row) bs × OnLine line row)
 
 -- the bytes are the text of this fine value
 abbrev Spells : {X : Type 0} → Spelling X → X → Bor (List ℕ) → Type 0
 Spells s x part = s.fine x × (part.now ≡ s.text x)
 
--- what the reader of the six columns after the kind answers: a value that each field spells, or the number of the first
--- one that spells none
-abbrev pub ColumnsRead : {A B C D E F : Type 0} → Row → Spelling A → Spelling B → Spelling C → Spelling D → Spelling E → Spelling F
+-- what the reader of the six columns after the kind answers: a value that each field spells, or where the first field
+-- stands that has not its form
+abbrev pub ColumnsRead : {A B C D E F : Type 0} → Row
+    → Spelling A → Spelling B → Spelling C → Spelling D → Spelling E → Spelling F
     → Result (A × B × C × D × E × F) WrongField → Type 0
 ColumnsRead row member zone flow value second date r =
     MatchResult r
     (λ v.
-    Spells member v.0 row.member.part × Spells zone v.1 row.zone.part × Spells flow v.2 row.flow.part
-    × Spells value v.3 row.value.part × Spells second v.4 row.second.part × Spells date v.5 row.date.part)
+    Spells member v.0 row.member.part × Spells zone v.1 row.zone.part
+    × Spells flow v.2 row.flow.part × Spells value v.3 row.value.part
+    × Spells second v.4 row.second.part × Spells date v.5 row.date.part)
     (λ wrong.
-    WrongOf (member.form ∷ zone.form ∷ flow.form ∷ value.form ∷ second.form ∷ date.form ∷ []) (others_of row) wrong.number)
+    (wrong.line ≡ row.kind.line)
+    × WrongOf (member.form ∷ zone.form ∷ flow.form ∷ value.form ∷ second.form ∷ date.form ∷ [])
+    (others_of row) wrong.number)
 
--- what a reader of the fields after the kind answers
-abbrev pub ReadAs : Kind → List (List ℕ) → Result Line WrongField → Type 0
-ReadAs kind texts (Ok line) = (kind_of line ≡ kind) × Writable line × (texts ≡ others line)
-ReadAs kind texts (Err wrong) = WrongOf (forms kind) texts wrong.number
+-- what a reader of the fields after the kind answers, on the line with this number
+abbrev pub ReadAs : Kind → (number : ℕ) → List (List ℕ) → Result Line WrongField → Type 0
+ReadAs kind number texts (Ok line) = (kind_of line ≡ kind) × Writable line × (texts ≡ others line)
+ReadAs kind number texts (Err wrong) =
+    (wrong.line ≡ number) × WrongOf (forms kind) texts wrong.number
 
 -- the same where none of them may be filled, and the line is known
-abbrev pub ReadBare : Line → List (List ℕ) → Result Line WrongField → Type 0
-ReadBare line texts (Ok same) = (same ≡ line) × (texts ≡ others Issue)
-ReadBare line texts (Err wrong) = WrongOf (forms kinds.Issue) texts wrong.number
+abbrev pub ReadBare : Line → (number : ℕ) → List (List ℕ) → Result Line WrongField → Type 0
+ReadBare line number texts (Ok same) = (same ≡ line) × (texts ≡ others Issue)
+ReadBare line number texts (Err wrong) =
+    (wrong.line ≡ number) × WrongOf (forms kinds.Issue) texts wrong.number
 
 -- what the reader of a row answers
-abbrev pub RowRead : List (List ℕ) → Result Line WrongField → Type 0
-RowRead texts (Ok line) = Writable line × (texts ≡ kind_word (kind_of line) ∷ others line)
-RowRead texts (Err wrong) = WrongAt texts wrong.number
+abbrev pub RowRead : (number : ℕ) → List (List ℕ) → Result Line WrongField → Type 0
+RowRead number texts (Ok line) = Writable line × (texts ≡ kind_word (kind_of line) ∷ others line)
+RowRead number texts (Err wrong) = (wrong.line ≡ number) × WrongAt texts wrong.number

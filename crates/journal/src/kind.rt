@@ -1,7 +1,7 @@
 //! The kinds of line.
 
 /// The kind of a line, by its first field.
-#[derive(Clone, Copy)]
+#[derive(Clone, Copy, Debug)]
 pub enum Kind {
     /// A meter reading, `READ`.
     Reading,

@@ -7,33 +7,34 @@ ghost use Rattle.journal.specs.declared.kind.Kind.TheVariants as kinds;
 
 use crate::kind::Kind;
 use crate::line::Line;
-use crate::refusal::ReadRefusal;
+use crate::refusal::{LineFault, ReadRefusal};
 use crate::row::Row;
 use crate::words::Word;
 use fields::column::{Column, Dated, Missing, Number, Signed};
 use fields::field::WrongField;
 use ledger::entry::{Entry, MemberRegister};
 
-/// Reads a line of a journal, with its line feed as its last byte, or tells why it is none; its fields are told with the number `line`, which does not change the answer.
-pub fn read_line(text: &[u8], line: usize) -> Result<Line, ReadRefusal>
-    ensures read { LineRead text.now result }
+/// Reads the line of a journal that has this number, with its line feed as its last byte; or tells at which line, in which field and why it is none.
+pub fn read_line(text: &[u8], line: usize) -> Result<Line, LineFault>
+    ensures read { LineRead text.now line result }
     ensures exactly { IsOk result ↔ HasForm text.now }
-    ensures only { (other : Result Line ReadRefusal) → LineRead text.now other → other ≡ result }
+    ensures only { (other : Result Line LineFault) → LineRead text.now line other → other ≡ result }
 {
     line_of(text, line)
 }
 
 // The same, by the fields of the line; what else its caller promises follows from what it answers.
-fn line_of(text: &[u8], line: usize) -> Result<Line, ReadRefusal>
-    ensures { LineRead text.now result }
+fn line_of(text: &[u8], line: usize) -> Result<Line, LineFault>
+    ensures { LineRead text.now line result }
 {
-    let row = Row::of(text, line).ok_or(ReadRefusal::Fields)?;
+    let refusal = ReadRefusal::Fields;
+    let row = Row::of(text, line).ok_or(LineFault { line, refusal })?;
     Ok(line_in(row)?)
 }
 
 // What a row says.
 fn line_in(row: Row<'_>) -> Result<Line, WrongField>
-    ensures { RowRead (texts_of row.entry) result }
+    ensures { RowRead row.entry.kind.line (texts_of row.entry) result }
 {
     let kind = Kind::read(row.kind)?;
     line_as(kind, row)
@@ -41,7 +42,7 @@ fn line_in(row: Row<'_>) -> Result<Line, WrongField>
 
 // The reading of a row. Each kind has a reader of its own, since its columns are types.
 fn reading_in(row: Row<'_>) -> Result<Line, WrongField>
-    ensures { ReadAs kinds.Reading (others_of row.entry) result }
+    ensures { ReadAs kinds.Reading row.entry.kind.line (others_of row.entry) result }
 {
     let (Number(place), Word(zone), Word(flow), Number(value), Missing, Dated(day)) =
         row.columns()?;
@@ -55,7 +56,7 @@ fn reading_in(row: Row<'_>) -> Result<Line, WrongField>
 
 // The meter change of a row.
 fn change_in(row: Row<'_>) -> Result<Line, WrongField>
-    ensures { ReadAs kinds.Change (others_of row.entry) result }
+    ensures { ReadAs kinds.Change row.entry.kind.line (others_of row.entry) result }
 {
     let (Number(place), Word(zone), Word(flow), Number(value), Number(start), Dated(day)) =
         row.columns()?;
@@ -70,7 +71,7 @@ fn change_in(row: Row<'_>) -> Result<Line, WrongField>
 
 // The correction of a row.
 fn correction_in(row: Row<'_>) -> Result<Line, WrongField>
-    ensures { ReadAs kinds.Correction (others_of row.entry) result }
+    ensures { ReadAs kinds.Correction row.entry.kind.line (others_of row.entry) result }
 {
     let (Number(place), Word(zone), Word(flow), Signed(quantity), Missing, Missing) =
         row.columns()?;
@@ -83,7 +84,7 @@ fn correction_in(row: Row<'_>) -> Result<Line, WrongField>
 
 // The payment of a row.
 fn payment_in(row: Row<'_>) -> Result<Line, WrongField>
-    ensures { ReadAs kinds.Payment (others_of row.entry) result }
+    ensures { ReadAs kinds.Payment row.entry.kind.line (others_of row.entry) result }
 {
     let (Number(place), Missing, Missing, Number(drams), Missing, Missing) = row.columns()?;
     let place = place as usize;
@@ -92,7 +93,7 @@ fn payment_in(row: Row<'_>) -> Result<Line, WrongField>
 
 // The line itself, where no field after the kind is filled.
 fn bare_line(line: Line, row: Row<'_>) -> Result<Line, WrongField>
-    ensures { ReadBare line (others_of row.entry) result }
+    ensures { ReadBare line row.entry.kind.line (others_of row.entry) result }
 {
     let (Missing, Missing, Missing, Missing, Missing, Missing) = row.columns()?;
     Ok(line)
@@ -100,7 +101,7 @@ fn bare_line(line: Line, row: Row<'_>) -> Result<Line, WrongField>
 
 // What a row of this kind says.
 fn line_as(kind: Kind, row: Row<'_>) -> Result<Line, WrongField>
-    ensures { ReadAs kind (others_of row.entry) result }
+    ensures { ReadAs kind row.entry.kind.line (others_of row.entry) result }
 {
     match kind {
         Kind::Reading => reading_in(row),

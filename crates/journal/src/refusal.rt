@@ -1,9 +1,17 @@
 //! Why a line is not read or not written.
-ghost use Rattle.std.specs.Prelude.{◌≡◌};
-ghost use Rattle.journal.specs.Refusals.{read_number, write_number};
+ghost use Rattle.std.specs.Prelude.{◌≡◌, Some};
+ghost use Rattle.journal.specs.Refusals.{
+  fault_told,
+  read_number,
+  read_words,
+  write_number,
+  write_words,
+};
 ghost use Rattle.journal.specs.declared.refusal.ReadRefusal.TheVariants.{Form};
 
 use fields::field::WrongField;
+use std::error::Error;
+use std::fmt;
 
 /// The refusal of the reader of a line.
 #[derive(Clone, Copy, PartialEq, Eq, Debug)]
@@ -30,13 +38,55 @@ impl ReadRefusal {
     }
 }
 
-// By hand: a derive would not state the case that `?` makes.
-impl From<WrongField> for ReadRefusal {
-    ghost from_gives = { λ wrong r. r ≡ Form wrong.number };
+// By hand, here and below: a derive of the kit states no words, and these are proved.
+impl fmt::Display for ReadRefusal {
+    ghost output = { λ refusal. Some (read_words refusal) };
 
-    fn from(wrong: WrongField) -> ReadRefusal {
-        ReadRefusal::Form {
-            field: wrong.number,
+    fn fmt<W: fmt::Write>(&self, f: &mut fmt::Formatter<W>) -> fmt::Result {
+        match self {
+            ReadRefusal::Fields => write!(f, "this is no whole line of seven fields"),
+            ReadRefusal::Form { .. } => {
+                write!(f, "this is not written as its place in the line asks")
+            }
+        }
+    }
+}
+
+impl Error for ReadRefusal {}
+
+/// The fault of a line that is not read.
+#[derive(Clone, Copy, PartialEq, Eq, Debug)]
+pub struct LineFault {
+    /// The number of the line.
+    pub line: usize,
+    /// Why it is not read.
+    pub refusal: ReadRefusal,
+}
+
+impl fmt::Display for LineFault {
+    ghost output = { λ fault. Some (fault_told fault) };
+
+    fn fmt<W: fmt::Write>(&self, f: &mut fmt::Formatter<W>) -> fmt::Result {
+        let LineFault { line, refusal } = *self;
+        match refusal {
+            ReadRefusal::Fields => write!(f, "line {line}: {refusal}"),
+            ReadRefusal::Form { field } => write!(f, "line {line}, field {field}: {refusal}"),
+        }
+    }
+}
+
+impl Error for LineFault {}
+
+// By hand: a derive would not state the case that `?` makes.
+impl From<WrongField> for LineFault {
+    ghost from_gives = { λ wrong r. r ≡ record { line = wrong.line; refusal = Form wrong.number } };
+
+    fn from(wrong: WrongField) -> LineFault {
+        LineFault {
+            line: wrong.line,
+            refusal: ReadRefusal::Form {
+                field: wrong.number,
+            },
         }
     }
 }
@@ -62,3 +112,24 @@ impl WriteRefusal {
         }
     }
 }
+
+impl fmt::Display for WriteRefusal {
+    ghost output = { λ refusal. Some (write_words refusal) };
+
+    fn fmt<W: fmt::Write>(&self, f: &mut fmt::Formatter<W>) -> fmt::Result {
+        match self {
+            WriteRefusal::Form => write!(
+                f,
+                "a number of the line has more than nine digits, or its day comes after 2099"
+            ),
+            WriteRefusal::Room => {
+                write!(
+                    f,
+                    "no room is left for 64 bytes, the most that a line takes"
+                )
+            }
+        }
+    }
+}
+
+impl Error for WriteRefusal {}

@@ -3,10 +3,10 @@ ghost use Rattle.std.specs.Prelude.{◌≡◌};
 
 use fields::column::Column;
 use fields::field::{Field, WrongField};
-use fields::marks::{LINE_FEED, cut};
+use fields::marks::{LINE_FEED, cut_into};
 
 /// The seven fields of a line of a journal.
-#[derive(Clone, Copy)]
+#[derive(Clone, Copy, Debug)]
 pub struct Row<'a> {
     /// The kind of the line.
     pub kind: Field<'a>,
@@ -30,6 +30,13 @@ pub struct Row<'a> {
     pub ghost value_fifth: { value.number ≡ 5 },
     pub ghost second_sixth: { second.number ≡ 6 },
     pub ghost date_seventh: { date.number ≡ 7 },
+    // They stand on one line.
+    pub ghost member_on_line: { member.line ≡ kind.line },
+    pub ghost zone_on_line: { zone.line ≡ kind.line },
+    pub ghost flow_on_line: { flow.line ≡ kind.line },
+    pub ghost value_on_line: { value.line ≡ kind.line },
+    pub ghost second_on_line: { second.line ≡ kind.line },
+    pub ghost date_on_line: { date.line ≡ kind.line },
 }
 
 impl<'a> Row<'a> {
@@ -50,16 +57,9 @@ impl<'a> Row<'a> {
     fn of_body(body: &'a [u8], line: usize) -> Option<Row<'a>>
         ensures { SevenParts body.now line result }
     {
-        // Each cut names its field: a loop over seven would fill an array only to take it apart here.
-        let (kind, rest) = cut(body)?;
-        let (member, rest) = cut(rest)?;
-        let (zone, rest) = cut(rest)?;
-        let (flow, rest) = cut(rest)?;
-        let (value, rest) = cut(rest)?;
-        let (second, date) = cut(rest)?;
-        if cut(date).is_some() {
-            return None;
-        }
+        let mut fields: [&[u8]; 7] = [b""; 7];
+        cut_into(body, &mut fields)?;
+        let [kind, member, zone, flow, value, second, date] = fields;
         Some(Row {
             kind: Field::new(line, 1, kind),
             member: Field::new(line, 2, member),
@@ -71,7 +71,7 @@ impl<'a> Row<'a> {
         })
     }
 
-    // The values of the six columns after the kind, or the number of the first field that has not its form.
+    // The values of the six columns after the kind, or where the first field stands that has not its form.
     pub(crate) fn columns<A: Column, B: Column, C: Column, D: Column, E: Column, F: Column>(
         self,
     ) -> Result<(A, B, C, D, E, F), WrongField>

@@ -100,7 +100,7 @@ impl Worded for Kind {
 }
 
 /// A value by its word.
-#[derive(Clone, Copy)]
+#[derive(Clone, Copy, Debug)]
 pub struct Word<W>(pub W);
 
 impl<W: Worded> Column for Word<W> {

@@ -3,7 +3,7 @@ use crate::slices::{BLANK, check_written};
 use calendar::date::Date;
 use cells::rows::{Cell, write_cell};
 use fields::dates::{day, month};
-use fields::marks::{cut, next_line_feed};
+use fields::marks::{cut, cut_into, next_line_feed};
 use fields::numbers::{number, signed_number};
 use std::test::Fail;
 
@@ -34,6 +34,33 @@ fn a_text_is_cut_at_its_first_comma(rt: HostRuntime) -> Result<(), Fail> {
     assert!(rt; rest == b"a,b".as_slice());
     assert!(rt; cut(b"a;b").is_none());
     Ok(())
+}
+
+// What a slice of three holds before a cut, and after one that is refused.
+const BEFORE: [&[u8]; 3] = [b"x", b"y", b"z"];
+
+// A text, whether it has just three fields, and what the slice holds after the cut.
+const CUTS: [(&[u8], bool, [&[u8]; 3]); 9] = [
+    (b"", false, BEFORE),
+    (b"a", false, BEFORE),
+    (b"a,b", false, BEFORE),
+    (b"a,b,c", true, [b"a", b"b", b"c"]),
+    (b",,", true, [b"", b"", b""]),
+    (b"a,,c\n", true, [b"a", b"", b"c\n"]),
+    (b"a,b,c,", false, BEFORE),
+    (b"a,b,c,d", false, BEFORE),
+    (b"a;b;c", false, BEFORE),
+];
+
+#[test]
+fn a_text_is_cut_into_three_fields(rt: HostRuntime) {
+    for (text, done, after) in CUTS.iter().copied() {
+        let mut fields = BEFORE;
+        assert_eq!(rt; cut_into(text, &mut fields).is_some(), done);
+        for place in 0..3 {
+            assert!(rt; fields[place] == after[place]);
+        }
+    }
 }
 
 const NUMBERS: [(&[u8], Option<u64>, Option<i64>); 9] = [

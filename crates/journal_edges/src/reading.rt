@@ -1,8 +1,9 @@
 //! What is read of a line, and what is refused.
 use crate::line_cases::LINES;
 use fields::token::Token;
+use journal::line::Line;
 use journal::read::read_line;
-use journal::refusal::ReadRefusal;
+use journal::refusal::{LineFault, ReadRefusal};
 use journal::row::Row;
 use std::test::Fail;
 
@@ -33,7 +34,8 @@ const NO_FIELDS: [&[u8]; 13] = [
 #[test]
 fn lines_without_seven_fields(rt: HostRuntime) {
     for text in NO_FIELDS.iter().copied() {
-        assert_eq!(rt; read_line(text, 2), Err(ReadRefusal::Fields));
+        let refusal = ReadRefusal::Fields;
+        assert_eq!(rt; read_line(text, 2), Err(LineFault { line: 2, refusal }));
     }
     assert_eq!(rt; ReadRefusal::Fields.number(), 25);
 }
@@ -141,7 +143,27 @@ fn first_wrong_fields(rt: HostRuntime) {
     for (text, field) in WRONG.iter().copied() {
         let refusal = ReadRefusal::Form { field };
         assert_eq!(rt; refusal.number(), 26);
-        assert_eq!(rt; read_line(text, 2), Err(refusal));
+        assert_eq!(rt; read_line(text, 2), Err(LineFault { line: 2, refusal }));
+    }
+}
+
+// Numbers of lines, among them such as no journal has.
+const NUMBERS: [usize; 5] = [0, 1, 3, 65_536, usize::MAX];
+
+#[test]
+fn faults_have_the_number_of_their_line(rt: HostRuntime) {
+    for line in NUMBERS.iter().copied() {
+        let fields = LineFault {
+            line,
+            refusal: ReadRefusal::Fields,
+        };
+        assert_eq!(rt; read_line(b"ISSUE,-,-,-,-,-,-", line), Err(fields));
+        let form = LineFault {
+            line,
+            refusal: ReadRefusal::Form { field: 7 },
+        };
+        assert_eq!(rt; read_line(b"ISSUE,-,-,-,-,-,2024-01-31\n", line), Err(form));
+        assert_eq!(rt; read_line(b"ISSUE,-,-,-,-,-,-\n", line), Ok(Line::Issue));
     }
 }
 
@@ -168,5 +190,26 @@ fn fields_have_tokens_by_their_look(rt: HostRuntime) -> Result<(), Fail> {
     assert!(rt; matches!(row.value.token(), Token::Number(b"007")));
     assert!(rt; matches!(row.second.token(), Token::Missing));
     assert!(rt; matches!(row.date.token(), Token::Date(b"2024-13-99")));
+    Ok(())
+}
+
+#[test]
+fn faults_are_told_in_words(rt: HostRuntime) -> Result<(), Fail> {
+    let alloc = rt.alloc();
+    let fields = LineFault {
+        line: 9,
+        refusal: ReadRefusal::Fields,
+    };
+    assert!(rt;
+        fields.to_string(alloc)?.as_str() == "line 9: this is no whole line of seven fields"
+    );
+    let form = LineFault {
+        line: 10,
+        refusal: ReadRefusal::Form { field: 3 },
+    };
+    assert!(rt;
+        form.to_string(alloc)?.as_str()
+            == "line 10, field 3: this is not written as its place in the line asks"
+    );
     Ok(())
 }

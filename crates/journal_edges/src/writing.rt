@@ -169,3 +169,17 @@ fn numbers_have_nine_digits_and_days_a_date(rt: HostRuntime) {
     }
     assert_eq!(rt; WriteRefusal::Form.number(), 26);
 }
+
+#[test]
+fn refusals_of_the_writer_are_told_in_words(rt: HostRuntime) -> Result<(), Fail> {
+    let alloc = rt.alloc();
+    assert!(rt;
+        WriteRefusal::Form.to_string(alloc)?.as_str()
+            == "a number of the line has more than nine digits, or its day comes after 2099"
+    );
+    assert!(rt;
+        WriteRefusal::Room.to_string(alloc)?.as_str()
+            == "no room is left for 64 bytes, the most that a line takes"
+    );
+    Ok(())
+}

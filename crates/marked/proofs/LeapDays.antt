@@ -10,7 +10,7 @@ use Rattle.fields.specs.Columns.{DateForm, NumberForm}
 use Rattle.fields.specs.Cuts.{Lacks}
 use Rattle.fields.specs.Rows.{line_of}
 use Rattle.fields.specs.Texts.{date_text}
-use Rattle.journal.specs.Lines.{LineRead}
+use Rattle.journal.specs.Lines.{LineRead, Refused}
 use Rattle.journal.specs.declared.kind.Kind.TheVariants as kinds
 use Rattle.journal.specs.declared.line.Line.TheVariants.{Enter}
 use Rattle.journal.specs.declared.refusal.ReadRefusal.TheVariants.{Form}
@@ -36,8 +36,8 @@ nine_hundred = refl
 abbrev before : List ℕ → List (List ℕ)
 before date = codes "READ" ∷ codes "0" ∷ codes "DAY" ∷ codes "GIVE" ∷ codes "900" ∷ codes "-" ∷ date ∷ []
 
-in_2024 : LineRead (codes "READ,0,DAY,GIVE,900,-,2024-02-29\n") (Ok (Enter (Reading register 8825 900)))
-in_2024 =
+in_2024 : (line : ℕ) → LineRead (codes "READ,0,DAY,GIVE,900,-,2024-02-29\n") line (Ok (Enter (Reading register 8825 900)))
+in_2024 line =
     let date : leap_day 2024 ≡ date_of_day 8825 = same_date (leap_day 2024) 8825 refl in (
       (omega arith, omega arith, omega arith),
       ap (λ d. line_of (before (date_text d))) date
@@ -55,8 +55,8 @@ no_date form =
     let z : ◌≡◌ {A = ℕ} 0 1 = cc in
     omega arith
 
-in_2023 : LineRead (codes "READ,0,DAY,GIVE,900,-,2023-02-29\n") (Err (Form 7))
-in_2023 = (
+refused_in_2023 : Refused (codes "READ,0,DAY,GIVE,900,-,2023-02-29\n") (Form 7)
+refused_in_2023 = (
   before (codes "2023-02-29"),
   (
     record {
@@ -68,6 +68,9 @@ in_2023 = (
     inr (kinds.Reading, (refl, (5, (refl, (subst NumberForm nought (number_form 0 (omega arith)), ((Day, refl), ((Delivered, refl), (subst NumberForm nine_hundred (number_form 900 (omega arith)), (refl, no_date))))))))),
   ),
 )
+
+in_2023 : (line : ℕ) → LineRead (codes "READ,0,DAY,GIVE,900,-,2023-02-29\n") line (Err (record { line = line; refusal = Form 7 }))
+in_2023 line = (refl, refused_in_2023)
 
 pub read_or_refused : ReadOrRefused
 read_or_refused = record { leap_day_of_2024 = in_2024; no_leap_day_of_2023 = in_2023; by_number = refl }

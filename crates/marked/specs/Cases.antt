@@ -60,8 +60,10 @@ register = record { place = 0; zone = Day; flow = Delivered }
 
 -- a reading on 29 February, which is a line in 2024 and wrong in its seventh field, by 26, in 2023
 pub record ReadOrRefused : Type 0 where
-  pub leap_day_of_2024 : LineRead (codes "READ,0,DAY,GIVE,900,-,2024-02-29\n") (Ok (Enter (Reading register 8825 900)))
-  pub no_leap_day_of_2023 : LineRead (codes "READ,0,DAY,GIVE,900,-,2023-02-29\n") (Err (Form 7))
+  pub leap_day_of_2024 : (line : ℕ)
+      → LineRead (codes "READ,0,DAY,GIVE,900,-,2024-02-29\n") line (Ok (Enter (Reading register 8825 900)))
+  pub no_leap_day_of_2023 : (line : ℕ)
+      → LineRead (codes "READ,0,DAY,GIVE,900,-,2023-02-29\n") line (Err (record { line = line; refusal = Form 7 }))
   pub by_number : read_number (Form 7) ≡ 26
 
 -- a register that stands at some value, with nothing tallied

@@ -6,7 +6,7 @@ use Rattle.cells.specs.Cells.{Put}
 use Rattle.group.specs.declared.group.Group.{Group}
 use Rattle.journal.specs.Lines.{LineRead}
 use Rattle.journal.specs.declared.line.Line.{Line}
-use Rattle.journal.specs.declared.refusal.ReadRefusal.{ReadRefusal}
+use Rattle.journal.specs.declared.refusal.LineFault.{LineFault}
 use Rattle.group.specs.Months.{Prices, Share}
 use Rattle.settlement.proofs.Beginning.{told_at}
 use Rattle.settlement.proofs.Billing.{put_none}
@@ -39,7 +39,7 @@ module _ (share : Share) (prices : ℕ → Prices) (body : List ℕ) (at : ℕ) 
   Rest line after text new later = LinesRun share prices ((length out - written) - length text) (number + 1 + 1) (text_lines after) new later
 
   -- the next line and what is behind it run where they do so apart
-  run_next : (line after : List ℕ) (reading : Result Line ReadRefusal) (step : Result (List ℕ × Group) RunRefusal) (ran : Ran) → text_lines rest ≡ line ∷ text_lines after → LineRead line reading → after_reading share prices (length out - written) reading group ≡ step → GoesOn (number + 1) group step (Rest line after) ran → LinesRun share prices (length out - written) (number + 1) (text_lines rest) group ran
+  run_next : (line after : List ℕ) (reading : Result Line LineFault) (step : Result (List ℕ × Group) RunRefusal) (ran : Ran) → text_lines rest ≡ line ∷ text_lines after → LineRead line (number + 1) reading → after_reading share prices (length out - written) reading group ≡ step → GoesOn (number + 1) group step (Rest line after) ran → LinesRun share prices (length out - written) (number + 1) (text_lines rest) group ran
   run_next line after reading step ran lines read is goes =
       subst (λ ls. LinesRun share prices (length out - written) (number + 1) ls group ran) (sym lines)
       (reading, read, subst (λ s. GoesOn (number + 1) group s (Rest line after) ran) (sym is) goes)
@@ -59,7 +59,7 @@ module _ (share : Share) (prices : ℕ → Prices) (body : List ℕ) (at : ℕ) 
       (subst (λ r. LinesRun share prices (length out - written) (number + 1) (text_lines r) group (ended group)) (sym none) refl)
 
   -- the next line is refused
-  pub going_stops : (line after : List ℕ) (fault : RunFault) (new_out : List ℕ) (new : Group) → text_lines rest ≡ line ∷ text_lines after → TextDone share prices line written (out, group) (Err fault) (new_out, new) → BodyDone share prices body at (old, start) (record { written = written; fault = Some (record fault { line = number + 1 }) }) (new_out, new)
+  pub going_stops : (line after : List ℕ) (fault : RunFault) (new_out : List ℕ) (new : Group) → text_lines rest ≡ line ∷ text_lines after → TextDone share prices line (number + 1) written (out, group) (Err fault) (new_out, new) → BodyDone share prices body at (old, start) (record { written = written; fault = Some (record fault { line = number + 1 }) }) (new_out, new)
   going_stops line after fault new_out new lines (reading, read, ((refuses, is), same)) =
       subst (λ (pair : List ℕ × Group). BodyDone share prices body at (old, start) (record { written = written; fault = Some (record fault { line = number + 1 }) }) pair) (sym same)
       (subst (λ (f : RunFault). BodyDone share prices body at (old, start) (record { written = written; fault = Some f }) (out, group)) (sym (told_at (number + 1) fault is))
@@ -67,7 +67,7 @@ module _ (share : Share) (prices : ℕ → Prices) (body : List ℕ) (at : ℕ) 
       (run_next line after reading (Err fault.refusal) (stopped (number + 1) fault.refusal group) lines read refuses refl)))
 
   -- the next line is done
-  pub going_on : (line after : List ℕ) (end : ℕ) (new_out : List ℕ) (new : Group) → text_lines rest ≡ line ∷ text_lines after → rest ≡ line ++ after → 0 < length line → length new_out ≡ length out → end ≤ length new_out → TextDone share prices line written (out, group) (Ok end) (new_out, new) → Going share prices body at old start end (number + 1) after new_out new
+  pub going_on : (line after : List ℕ) (end : ℕ) (new_out : List ℕ) (new : Group) → text_lines rest ≡ line ∷ text_lines after → rest ≡ line ++ after → 0 < length line → length new_out ≡ length out → end ≤ length new_out → TextDone share prices line (number + 1) written (out, group) (Ok end) (new_out, new) → Going share prices body at old start end (number + 1) after new_out new
   going_on line after end new_out new lines whole some wide fits (reading, read, (text, is, put)) =
       let left : (length out - written) - length text ≡ length new_out - end = omega (arith, put.stop, wide) in
       record {

@@ -6,7 +6,7 @@ use Rattle.std.proofs.lemmas.List.Elements.{All-cons, All-head, All-nil, All-tai
 use Rattle.std.specs.List.{All}
 use Rattle.group.specs.declared.group.Group.{Group}
 use Rattle.fields.specs.Rows.{row}
-use Rattle.journal.specs.Lines.{LineRead, kind_of, others}
+use Rattle.journal.specs.Lines.{IsLine, kind_of, others}
 use Rattle.journal.specs.Words.{kind_word}
 use Rattle.journal.specs.Names.{journal_names}
 use Rattle.journal.specs.declared.line.Line.{Line}
@@ -82,7 +82,7 @@ abbrev Whole : List ℕ → Type 0
 Whole line = (front : List ℕ) × (line ≡ front ++ 10 ∷ [])
 
 -- a line that is read has its line feed
-read_whole : (bs : List ℕ) (line : Line) → LineRead bs (Ok line) → Whole bs
+read_whole : (bs : List ℕ) (line : Line) → IsLine bs line → Whole bs
 read_whole bs line (writable, is) = (row (kind_word (kind_of line) ∷ others line), is)
 
 -- a step that is gone through goes on
@@ -101,8 +101,8 @@ gone_through share prices (bs ∷ lines) room first group ran (Ok line, read, go
     (λ text new rest. LinesRun share prices (room - length text) (first + 1) lines new rest) ran (All Whole lines) goes ends
     (λ text new rest comes run_rest.
     gone_through share prices lines (room - length text) (first + 1) new rest run_rest (sym (ap (λ (r : Ran). r.fault) comes) ∙ ends)))
-gone_through share prices (bs ∷ lines) room first group ran (Err refusal, read, stops) ends =
-    let never : ◌≡◌ {A = Option RunFault} (Some (fault_at first (refused.Line refusal))) None = ap (λ (r : Ran). r.fault) (sym stops) ∙ ends in
+gone_through share prices (bs ∷ lines) room first group ran (Err fault, read, stops) ends =
+    let never : ◌≡◌ {A = Option RunFault} (Some (fault_at first (refused.Line fault.refusal))) None = ap (λ (r : Ran). r.fault) (sym stops) ∙ ends in
     absurd cc
 
 -- the front of a line that has its line feed is no line feed, so what follows it has it

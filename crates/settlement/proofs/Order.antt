@@ -8,11 +8,11 @@ use Rattle.group.proofs.Stepping.{and_then_ok, made_ok}
 use Rattle.group.specs.Results.{and_then, made}
 use Rattle.group.specs.declared.group.Group.{Group}
 use Rattle.group.specs.declared.refusal.BookRefusal.{BookRefusal}
-use Rattle.journal.specs.Lines.{LineRead}
+use Rattle.journal.specs.Lines.{IsLine, LineRead, Refused}
 use Rattle.ledger.specs.declared.bill.Bill.{Bill}
 use Rattle.journal.specs.declared.line.Line.{Line}
 use Rattle.journal.specs.declared.line.Line.TheVariants.{Enter, Issue, Year}
-use Rattle.journal.specs.declared.refusal.ReadRefusal.{ReadRefusal}
+use Rattle.journal.specs.declared.refusal.LineFault.{LineFault}
 use Rattle.settlement.specs.Output.{year_line}
 use Rattle.group.specs.Drafts.{Stamp, drawn, issued}
 use Rattle.group.specs.Entries.{after_entry}
@@ -94,7 +94,7 @@ book_refusal share prices Year group refusal is =
     ap (made (λ d. (year_figures (prices d) group, after_year prices d group)))
     (made_err (λ (d : ℕ). (year_line d group.holder (year_figures (prices d) group), after_year prices d group)) (open_year group.phase) refusal is)
 
-stops_line : (share : Share) (prices : ℕ → Prices) (room : ℕ) (group : Group) (text : List ℕ) (line : Line) (does : Result (List ℕ × Group) BookRefusal) (refusal : RunRefusal) → LineRead text (Ok line) → done_by share prices line group ≡ does → and_then (refused_as refused.Book does) (λ (done : List ℕ × Group). made (λ (checked : Unit {0}). done) (room_checked room (room_for line))) ≡ Err refusal → StopsAt share prices room group text refusal
+stops_line : (share : Share) (prices : ℕ → Prices) (room : ℕ) (group : Group) (text : List ℕ) (line : Line) (does : Result (List ℕ × Group) BookRefusal) (refusal : RunRefusal) → IsLine text line → done_by share prices line group ≡ does → and_then (refused_as refused.Book does) (λ (done : List ℕ × Group). made (λ (checked : Unit {0}). done) (room_checked room (room_for line))) ≡ Err refusal → StopsAt share prices room group text refusal
 stops_line share prices room group text line (Ok (written, new)) refusal read does is =
     let checked = made_err (λ (checked : Unit {0}). (written, new)) (room_checked room (room_for line)) refusal is in
     let accepted = more share prices line [] group new new written [] [] does (none new) in
@@ -107,20 +107,20 @@ stops_line share prices room group text line (Err by_book) refusal read does is 
     (by_the_book line by_book read (book_refusal share prices line group by_book does))
 
 -- what is refused of a reading is refused for one of three reasons
-stops_at : (share : Share) (prices : ℕ → Prices) (room : ℕ) (group : Group) (text : List ℕ) (reading : Result Line ReadRefusal) (refusal : RunRefusal) → LineRead text reading → after_reading share prices room reading group ≡ Err refusal → StopsAt share prices room group text refusal
-stops_at share prices room group text (Ok line) refusal read is =
+stops_at : (share : Share) (prices : ℕ → Prices) (room : ℕ) (group : Group) (text : List ℕ) (number : ℕ) (reading : Result Line LineFault) (refusal : RunRefusal) → LineRead text number reading → after_reading share prices room reading group ≡ Err refusal → StopsAt share prices room group text refusal
+stops_at share prices room group text number (Ok line) refusal read is =
     stops_line share prices room group text line (done_by share prices line group) refusal read refl is
-stops_at share prices room group text (Err wrong) refusal read is =
-    let known : ◌≡◌ {A = Result (List ℕ × Group) RunRefusal} (Err (refused.Line wrong)) (Err refusal) = is in
-    let same : refused.Line wrong ≡ refusal = cc in
-    subst (λ r. StopsAt share prices room group text r) same (no_line wrong read)
+stops_at share prices room group text number (Err wrong) refusal read is =
+    let known : ◌≡◌ {A = Result (List ℕ × Group) RunRefusal} (Err (refused.Line wrong.refusal)) (Err refusal) = is in
+    let same : refused.Line wrong.refusal ≡ refusal = cc in
+    subst (λ r. StopsAt share prices room group text r) same (no_line wrong.refusal read.1)
 
 -- the stop is told from the line before on
 stop_more : (first accepted all : ℕ) (fault : Option RunFault) → StopsBehind (first + 1) accepted all fault → StopsBehind first (suc accepted) (suc all) fault
 stop_more first many all None is = omega (arith, is)
 stop_more first many all (Some fault) is = (omega (arith, is.0), omega (arith, is.1))
 
-in_order_more : (share : Share) (prices : ℕ → Prices) (room first : ℕ) (text_line : List ℕ) (rest : List (List ℕ)) (group new : Group) (text : List ℕ) (line : Line) (later : Ran) → LineRead text_line (Ok line) → done_by share prices line group ≡ Ok (text, new) → InOrder share prices (room - length text) (first + 1) rest new later → InOrder share prices room first (text_line ∷ rest) group (after_text text later)
+in_order_more : (share : Share) (prices : ℕ → Prices) (room first : ℕ) (text_line : List ℕ) (rest : List (List ℕ)) (group new : Group) (text : List ℕ) (line : Line) (later : Ran) → IsLine text_line line → done_by share prices line group ≡ Ok (text, new) → InOrder share prices (room - length text) (first + 1) rest new later → InOrder share prices room first (text_line ∷ rest) group (after_text text later)
 in_order_more share prices room first text_line rest group new text line later read done order =
     let all = more share prices line order.accepted group new later.group text order.texts order.calls done order.taken in
     record {
@@ -147,15 +147,15 @@ none_in_order share prices room first line lines group refusal why = record {
   reason = (line, lines, refl, subst (λ n. StopsAt share prices n group line refusal) (omega arith) why, refl);
 }
 
-goes_in_order : (share : Share) (prices : ℕ → Prices) (room first : ℕ) (text_line : List ℕ) (rest : List (List ℕ)) (reading : Result Line ReadRefusal) (group : Group) (Rest : List ℕ → Group → Ran → Type 0) (step : Result (List ℕ × Group) RunRefusal) (ran : Ran) → LineRead text_line reading → after_reading share prices room reading group ≡ step → GoesOn first group step Rest ran → ((text : List ℕ) (new : Group) (later : Ran) → Rest text new later → InOrder share prices (room - length text) (first + 1) rest new later) → InOrder share prices room first (text_line ∷ rest) group ran
+goes_in_order : (share : Share) (prices : ℕ → Prices) (room first : ℕ) (text_line : List ℕ) (rest : List (List ℕ)) (reading : Result Line LineFault) (group : Group) (Rest : List ℕ → Group → Ran → Type 0) (step : Result (List ℕ × Group) RunRefusal) (ran : Ran) → LineRead text_line first reading → after_reading share prices room reading group ≡ step → GoesOn first group step Rest ran → ((text : List ℕ) (new : Group) (later : Ran) → Rest text new later → InOrder share prices (room - length text) (first + 1) rest new later) → InOrder share prices room first (text_line ∷ rest) group ran
 goes_in_order share prices room first text_line rest reading group Rest (Ok done) ran read is (later, behind, comes) further =
     let line = through share prices room reading group done.1 done.0 is in
-    let known = subst (λ (r : Result Line ReadRefusal). LineRead text_line r) line.is read in
+    let known = subst (λ (r : Result Line LineFault). LineRead text_line first r) line.is read in
     subst (λ (r : Ran). InOrder share prices room first (text_line ∷ rest) group r) (sym comes)
     (in_order_more share prices room first text_line rest group done.1 done.0 line.line later known line.done (further done.0 done.1 later behind))
 goes_in_order share prices room first text_line rest reading group Rest (Err refusal) ran read is comes further =
     subst (λ (r : Ran). InOrder share prices room first (text_line ∷ rest) group r) (sym comes)
-    (none_in_order share prices room first text_line rest group refusal (stops_at share prices room group text_line reading refusal read is))
+    (none_in_order share prices room first text_line rest group refusal (stops_at share prices room group text_line first reading refusal read is))
 
 in_order : (share : Share) (prices : ℕ → Prices) (lines : List (List ℕ)) (room first : ℕ) (group : Group) (ran : Ran) → LinesRun share prices room first lines group ran → InOrder share prices room first lines group ran
 in_order share prices [] room first group ran is =

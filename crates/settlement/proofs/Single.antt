@@ -5,7 +5,7 @@ use Rattle.group.specs.declared.group.Group.{Group}
 use Rattle.journal.proofs.Forms.{one_answer}
 use Rattle.journal.specs.Names.{journal_names}
 use Rattle.journal.specs.declared.line.Line.{Line}
-use Rattle.journal.specs.declared.refusal.ReadRefusal.{ReadRefusal}
+use Rattle.journal.specs.declared.refusal.LineFault.{LineFault}
 use Rattle.settlement.specs.Output.{output_names}
 use Rattle.group.specs.Months.{Prices, Share}
 use Rattle.settlement.specs.Laws.{OneOutcome}
@@ -23,9 +23,9 @@ lines_once : (share : Share) (prices : ℕ → Prices) (lines : List (List ℕ))
 lines_once share prices [] room number group ran other is is_too = is ∙ sym is_too
 lines_once share prices (line ∷ lines) room number group ran other (reading, read, goes) (reading_too, read_too, goes_too) =
     let Rest : List ℕ → Group → Ran → Type 0 = λ text new later. LinesRun share prices (room - length text) (number + 1) lines new later in
-    let same = one_answer line reading_too reading read_too read in
+    let same = one_answer line number reading_too reading read_too read in
     once number group (after_reading share prices room reading group) Rest ran other goes
-    (subst (λ (r : Result Line ReadRefusal). GoesOn number group (after_reading share prices room r group) Rest other) same goes_too)
+    (subst (λ (r : Result Line LineFault). GoesOn number group (after_reading share prices room r group) Rest other) same goes_too)
     (λ text new a b. lines_once share prices lines (room - length text) (number + 1) new a b)
 
 pub one_outcome : OneOutcome

@@ -15,7 +15,7 @@ use Rattle.ledger.specs.declared.bill.YearEnd.{YearEnd}
 use Rattle.ledger.specs.declared.entry.Entry.{Entry}
 use Rattle.journal.specs.declared.line.Line.{Line}
 use Rattle.journal.specs.declared.line.Line.TheVariants.{Enter, Issue, Year}
-use Rattle.journal.specs.declared.refusal.ReadRefusal.{ReadRefusal}
+use Rattle.journal.specs.declared.refusal.LineFault.{LineFault}
 use Rattle.settlement.specs.Output.{year_line}
 use Rattle.group.proofs.Lists.{length-by_place}
 use Rattle.group.specs.Drafts.{Stamp, after_drawing, after_issue, drawn, issued, overwritten}
@@ -85,18 +85,18 @@ accepted refusal_of (Ok y) x is = cc
 accepted refusal_of (Err e) x is = absurd cc
 
 -- a line that goes through was read, and the book accepted it
-pub record Through (share : Share) (prices : ℕ → Prices) (reading : Result Line ReadRefusal) (group new : Group) (text : List ℕ) : Type 0 where
+pub record Through (share : Share) (prices : ℕ → Prices) (reading : Result Line LineFault) (group new : Group) (text : List ℕ) : Type 0 where
   pub line : Line
   pub is : reading ≡ Ok line
   pub done : done_by share prices line group ≡ Ok (text, new)
 
-pub through : (share : Share) (prices : ℕ → Prices) (room : ℕ) (reading : Result Line ReadRefusal) (group new : Group) (text : List ℕ) → after_reading share prices room reading group ≡ Ok (text, new) → Through share prices reading group new text
+pub through : (share : Share) (prices : ℕ → Prices) (room : ℕ) (reading : Result Line LineFault) (group new : Group) (text : List ℕ) → after_reading share prices room reading group ≡ Ok (text, new) → Through share prices reading group new text
 through share prices room reading group new text is =
-    let (line, read, does) = and_then_ok (refused_as refused.Line reading) (λ (l : Line). after_line share prices room l group) (text, new) is in
+    let (line, read, does) = and_then_ok (refused_as (λ (fault : LineFault). refused.Line fault.refusal) reading) (λ (l : Line). after_line share prices room l group) (text, new) is in
     let (done, accepts, checked) = and_then_ok (refused_as refused.Book (done_by share prices line group)) (λ (d : List ℕ × Group). made (λ has. d) (room_checked room (room_for line))) (text, new) does in
     let (has, fits, same) = made_ok (λ (h : Unit {0}). done) (room_checked room (room_for line)) (text, new) checked in
     record {
       line = line;
-      is = accepted refused.Line reading line read;
+      is = accepted (λ (fault : LineFault). refused.Line fault.refusal) reading line read;
       done = accepted refused.Book (done_by share prices line group) done accepts ∙ ap (λ (d : List ℕ × Group). Ok d) same;
     }

@@ -4,7 +4,7 @@ use Rattle.std.specs.List.{AllZip}
 use Rattle.balance.specs.Histories.{Closing, Drawing, Entering, Event, Issuing}
 use Rattle.group.specs.declared.group.Group.{Group}
 use Rattle.group.specs.declared.group.Phase.TheVariants.{YearEnd as AtYearEnd}
-use Rattle.journal.specs.Lines.{LineRead}
+use Rattle.journal.specs.Lines.{IsLine}
 use Rattle.ledger.specs.declared.bill.Bill.{Bill}
 use Rattle.ledger.specs.declared.bill.YearEnd.{YearEnd}
 use Rattle.ledger.specs.declared.entry.Entry.{Entry}
@@ -19,7 +19,7 @@ use Rattle.settlement.specs.Texts.{bills_text}
 
 -- these lines are what the first of the texts say
 abbrev pub ReadFirst : List (List ℕ) → List Line → Type 0
-ReadFirst texts lines = AllZip (λ text line. LineRead text (Ok line)) (take (length lines) texts) lines
+ReadFirst texts lines = AllZip (λ text line. IsLine text line) (take (length lines) texts) lines
 
 -- the book accepts these lines one after another, which write these texts and make these calls, the latest first: an entry is
 -- entered and writes nothing; an issue draws and issues, and writes the bills of the issue; a year closing writes its figures

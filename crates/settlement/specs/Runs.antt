@@ -6,7 +6,7 @@ use Rattle.group.specs.declared.group.Group.{Group}
 use Rattle.journal.specs.Lines.{LineRead}
 use Rattle.journal.specs.Names.{journal_names}
 use Rattle.journal.specs.declared.line.Line.{Line}
-use Rattle.journal.specs.declared.refusal.ReadRefusal.{ReadRefusal}
+use Rattle.journal.specs.declared.refusal.LineFault.{LineFault}
 use Rattle.settlement.specs.Output.{output_names}
 use Rattle.group.specs.Months.{Prices, Share}
 use Rattle.settlement.specs.Faults.{fault_at}
@@ -45,7 +45,7 @@ GoesOn number group (Err refusal) Rest ran = ran ≡ stopped number refusal grou
 abbrev pub LinesRun : Share → (ℕ → Prices) → (room number : ℕ) → List (List ℕ) → Group → Ran → Type 0
 LinesRun share prices room number [] group ran = ran ≡ ended group
 LinesRun share prices room number (line ∷ lines) group ran =
-    (reading : Result Line ReadRefusal) × LineRead line reading
+    (reading : Result Line LineFault) × LineRead line number reading
     × GoesOn number group (after_reading share prices room reading group)
     (λ text new later. LinesRun share prices (room - length text) (number + 1) lines new later) ran
 

@@ -7,7 +7,7 @@ use Rattle.group.specs.declared.refusal.BookRefusal.{BookRefusal}
 use Rattle.journal.specs.Lines.{LineRead}
 use Rattle.journal.specs.declared.line.Line.{Line}
 use Rattle.journal.specs.declared.line.Line.TheVariants.{Enter, Issue, Year}
-use Rattle.journal.specs.declared.refusal.ReadRefusal.{ReadRefusal}
+use Rattle.journal.specs.declared.refusal.LineFault.{LineFault}
 use Rattle.settlement.specs.Output.{year_line}
 use Rattle.group.specs.Drafts.{drawn, issued}
 use Rattle.group.specs.Entries.{after_entry}
@@ -48,9 +48,9 @@ refused_as refusal_of (Err e) = Err (refusal_of e)
 abbrev pub room_checked : (room needed : ℕ) → Result (Unit {0}) RunRefusal
 room_checked room needed = if nat_lt room needed then Err refused.Room else Ok tt
 
--- a fault, of no line yet, is that of why a step is refused
+-- a fault, whatever its line, is that of why a step is refused
 abbrev pub RefusedBy : {A : Type 0} → Result A RunRefusal → RunFault → Type 0
-RefusedBy step fault = (step ≡ Err fault.refusal) × (fault ≡ fault_at 0 fault.refusal)
+RefusedBy step fault = (step ≡ Err fault.refusal) × (fault ≡ fault_at fault.line fault.refusal)
 
 -- what is answered on the room of the output
 abbrev pub RoomChecked : (room : ℕ) → Result (Unit {0}) RunFault → Type 0
@@ -64,9 +64,9 @@ after_line share prices room line group =
     made (λ checked. done) (room_checked room (room_for line)))
 
 -- what is read of a line does the same, where it is a line
-abbrev pub after_reading : Share → (ℕ → Prices) → (room : ℕ) → Result Line ReadRefusal → Group → Result (List ℕ × Group) RunRefusal
+abbrev pub after_reading : Share → (ℕ → Prices) → (room : ℕ) → Result Line LineFault → Group → Result (List ℕ × Group) RunRefusal
 after_reading share prices room reading group =
-    and_then (refused_as refused.Line reading) (λ line. after_line share prices room line group)
+    and_then (refused_as (λ fault. refused.Line fault.refusal) reading) (λ line. after_line share prices room line group)
 
 -- a step is done: its text stands in the output from a place on, and the group is that of the step; or the step is refused,
 -- and both are as they were
@@ -79,8 +79,8 @@ abbrev pub LineDone : Share → (ℕ → Prices) → Line → (at : ℕ) → (ol
 LineDone share prices line at old answer new =
     StepDone (after_line share prices (length old.0 - at) line old.1) at old answer new
 
--- what is read of a text is done
-abbrev pub TextDone : Share → (ℕ → Prices) → (text : List ℕ) → (at : ℕ) → (old : List ℕ × Group) → Result ℕ RunFault → (new : List ℕ × Group) → Type 0
-TextDone share prices text at old answer new =
-    (reading : Result Line ReadRefusal) × LineRead text reading
+-- what is read of the text of the line with this number is done
+abbrev pub TextDone : Share → (ℕ → Prices) → (text : List ℕ) → (number : ℕ) → (at : ℕ) → (old : List ℕ × Group) → Result ℕ RunFault → (new : List ℕ × Group) → Type 0
+TextDone share prices text number at old answer new =
+    (reading : Result Line LineFault) × LineRead text number reading
     × StepDone (after_reading share prices (length old.0 - at) reading old.1) at old answer new

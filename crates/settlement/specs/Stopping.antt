@@ -3,7 +3,7 @@ use Rattle.std.specs.Prelude.{◌≡◌, ℕ, ◌<◌, List, [], ◌∷◌, None
 use Rattle.balance.specs.Histories.{Event}
 use Rattle.group.specs.declared.group.Group.{Group}
 use Rattle.group.specs.declared.refusal.BookRefusal.{BookRefusal}
-use Rattle.journal.specs.Lines.{LineRead}
+use Rattle.journal.specs.Lines.{IsLine, Refused}
 use Rattle.ledger.specs.declared.bill.Bill.{Bill}
 use Rattle.journal.specs.declared.line.Line.{Line}
 use Rattle.journal.specs.declared.line.Line.TheVariants.{Enter, Issue, Year}
@@ -30,10 +30,10 @@ BookRefuses share prices Year group refusal = closed prices group ≡ Err refusa
 -- why a run stops at a text, over a group and with so much room: the text is no line, the book refuses what it says, or the
 -- book would accept it and the room for what it writes is short
 pub data StopsAt (share : Share) (prices : ℕ → Prices) (room : ℕ) (group : Group) (text : List ℕ) : RunRefusal → Type 0 where
-  no_line : (refusal : ReadRefusal) → LineRead text (Err refusal) → StopsAt share prices room group text (refused.Line refusal)
-  by_the_book : (line : Line) (refusal : BookRefusal) → LineRead text (Ok line) → BookRefuses share prices line group refusal
+  no_line : (refusal : ReadRefusal) → Refused text refusal → StopsAt share prices room group text (refused.Line refusal)
+  by_the_book : (line : Line) (refusal : BookRefusal) → IsLine text line → BookRefuses share prices line group refusal
       → StopsAt share prices room group text (refused.Book refusal)
-  short_of_room : (line : Line) (texts : List (List ℕ)) (calls : List Event) (after : Group) → LineRead text (Ok line)
+  short_of_room : (line : Line) (texts : List (List ℕ)) (calls : List Event) (after : Group) → IsLine text line
       → Accepted share prices (line ∷ []) group texts calls after → room < room_for line
       → StopsAt share prices room group text refused.Room
 

@@ -4,7 +4,7 @@ ghost use Rattle.settlement.specs.Faults.{fault_at, field_of, layer_of, number_o
 ghost use Rattle.settlement.specs.declared.fault.RunRefusal.TheVariants as refused;
 
 use group::refusal::BookRefusal;
-use journal::refusal::ReadRefusal;
+use journal::refusal::{LineFault, ReadRefusal};
 
 // The line of a fault until the loop over the lines tells it.
 pub(crate) const NO_LINE: usize = 0;
@@ -93,11 +93,11 @@ impl RunFault {
 }
 
 // Each by hand: a derive would not state the fault that `?` makes.
-impl From<ReadRefusal> for RunFault {
-    ghost from_gives = { λ refusal r. r ≡ fault_at 0 (refused.Line refusal) };
+impl From<LineFault> for RunFault {
+    ghost from_gives = { λ fault r. r ≡ fault_at fault.line (refused.Line fault.refusal) };
 
-    fn from(refusal: ReadRefusal) -> RunFault {
-        RunFault::new(NO_LINE, RunRefusal::Line(refusal))
+    fn from(fault: LineFault) -> RunFault {
+        RunFault::new(fault.line, RunRefusal::Line(fault.refusal))
     }
 }
 

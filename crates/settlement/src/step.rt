@@ -120,7 +120,7 @@ pub(crate) fn run_line<R: SharingRule, T: Tariff>(
 ) -> Result<usize, RunFault>
     requires { at ≤ length out.old }
     ensures done { TextDone (R.SharingRule.sharing book.old.rule) (T.Tariff.price book.old.tariff)
-        text.now at (out.old, book.old.group) result (out.new, book.new.group) }
+        text.now number at (out.old, book.old.group) result (out.new, book.new.group) }
     ensures terms { SameTerms book.old book.new }
     ensures inside { IfOk result (λ end. end ≤ length out.new) }
 {

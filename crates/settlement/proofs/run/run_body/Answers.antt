@@ -1,4 +1,4 @@
-use Rattle.std.proofs.Common.{Ok, Err, length, ap, arith, refl}
+use Rattle.std.proofs.Common.{◌+◌, Ok, Err, length, ap, arith, refl}
 use Rattle.std.proofs.lemmas.Grind.{common_steps}
 use Rattle.std.proofs.lemmas.List.{length-append}
 use Rattle.settlement.proofs.Going.{going_begins, going_ends, going_on, going_stops}
@@ -22,7 +22,7 @@ pub returns-in-Err-clause-done : goal.returns-in-Err-clause-done
 returns-in-Err-clause-done g c =
     let (going, same) = c.loop-line.invariant in
     let (whole, some, lines) = c.in-Some.ensures in
-    let done = by_terms g.R.SharingRule.sharing g.T.Tariff.price c.args.book.now c.loop-line.book same (λ share prices. TextDone share prices c.in-Some.line.now c.loop-line.written (c.loop-line.out, c.loop-line.book.group) (Err c.in-Err.fault) (c.run_line.new.out, c.run_line.new.book.group)) c.in-Err.ensures.done in
+    let done = by_terms g.R.SharingRule.sharing g.T.Tariff.price c.args.book.now c.loop-line.book same (λ share prices. TextDone share prices c.in-Some.line.now (c.loop-line.number + 1) c.loop-line.written (c.loop-line.out, c.loop-line.book.group) (Err c.in-Err.fault) (c.run_line.new.out, c.run_line.new.book.group)) c.in-Err.ensures.done in
     going_stops _ _ _ _ _ _ _ _ _ _ _ going _ c.in-Some.after.now _ _ _ lines done
 
 pub returns-in-Err-clause-terms : goal.returns-in-Err-clause-terms
@@ -37,7 +37,7 @@ pub loop-line-preserved : goal.loop-line-preserved
 loop-line-preserved g c =
     let (going, same) = c.loop-line.invariant in
     let (whole, some, lines) = c.in-Some.ensures in
-    let done = by_terms g.R.SharingRule.sharing g.T.Tariff.price c.args.book.now c.loop-line.book same (λ share prices. TextDone share prices c.in-Some.line.now c.loop-line.written (c.loop-line.out, c.loop-line.book.group) (Ok c.in-Ok.end) (c.run_line.new.out, c.run_line.new.book.group)) c.in-Ok.ensures.done in (
+    let done = by_terms g.R.SharingRule.sharing g.T.Tariff.price c.args.book.now c.loop-line.book same (λ share prices. TextDone share prices c.in-Some.line.now (c.loop-line.number + 1) c.loop-line.written (c.loop-line.out, c.loop-line.book.group) (Ok c.in-Ok.end) (c.run_line.new.out, c.run_line.new.book.group)) c.in-Ok.ensures.done in (
       going_on _ _ _ _ _ _ _ _ _ _ _ going _ _ _ _ _ lines whole some (grind (arith, common_steps)) c.in-Ok.ensures.inside done,
       same_on _ _ _ same c.run_line.ensures.terms,
     )
