@@ -1,5 +1,5 @@
 -- The calls of a book by the phase that they ask for, and the month that each is for.
-use Rattle.std.specs.Prelude.{◌≡◌, ℕ, ◌≤◌, Bool, if◌then◌else◌, length, Ok, Err, Result}
+use Rattle.std.specs.Prelude.{◌≡◌, ℕ, ◌≤◌, if◌then◌else◌, length, Ok, Err, Result}
 use Rattle.group.specs.Books.{unopened}
 use Rattle.group.specs.Drafts.{drawable}
 use Rattle.group.specs.Results.{and_then, made}

@@ -4,6 +4,7 @@ ghost use Rattle.balance.specs.Balances.{BeginsBalanced, GoesOnBalanced, drawing
 ghost use Rattle.book.specs.Calls.{IsInPhaseFor, month_for};
 ghost use Rattle.balance.specs.Histories.{Opening, Entering, Drawing, Checking, Issuing, Withdrawing, Closing};
 ghost use Rattle.ledger.specs.Zones.{in_zone};
+ghost use Rattle.group.specs.Changes.{AltersOne, EntersOne};
 ghost use Rattle.group.specs.Groups.{blank, member_at};
 ghost use Rattle.group.specs.Results.{Answers, Follows};
 ghost use Rattle.group.specs.declared.group.Phase.TheVariants.{Blank};
@@ -146,6 +147,7 @@ impl<R: SharingRule, T: Tariff> Book<R, T> {
     /// Makes an entry in the open month.
     pub fn enter(&mut self, entry: Entry) -> Result<(), BookRefusal>
         ensures group { Follows (after_entry entry self.old.group) self.old.group result self.new.group }
+        ensures one { EntersOne entry self.old.group self.new.group }
         ensures terms { SameTerms self.old self.new }
         ensures balance { GoesOnBalanced R.SharingRule.sharing T.Tariff.price
             self.old (Entering entry result) self.new }
@@ -250,6 +252,7 @@ impl<R: SharingRule, T: Tariff> Book<R, T> {
     pub fn close_year(&mut self) -> Result<YearEnd, BookRefusal>
         ensures group { Answers (closed (T.Tariff.price self.old.tariff) self.old.group)
             self.old.group result self.new.group }
+        ensures holder { AltersOne self.old.group.holder self.old.group self.new.group }
         ensures terms { SameTerms self.old self.new }
         ensures balance { GoesOnBalanced R.SharingRule.sharing T.Tariff.price
             self.old (Closing result) self.new }
@@ -268,12 +271,11 @@ impl<R: SharingRule, T: Tariff> Book<R, T> {
         let members = self.members();
         match (self.group.phase, call) {
             (Phase::Blank, Call::Open { start }) => Ok(start),
-            (Phase::Open(month), Call::Draw { places }) if members <= places => Ok(month),
-            (Phase::Open(_), Call::Draw { .. }) => Err(BookRefusal::Lines),
-            (Phase::Open(_), Call::Issue { places, .. }) if places < members => {
-                Err(BookRefusal::Lines)
+            (Phase::Open(_), Call::Draw { places } | Call::Issue { places, .. })
+                if places < members => { Err(BookRefusal::Lines) }
+            (Phase::Open(month), Call::Draw { .. } | Call::Issue { current: true, .. }) => {
+                Ok(month)
             }
-            (Phase::Open(month), Call::Issue { current: true, .. }) => Ok(month),
             (Phase::Open(_), Call::Issue { current: false, .. }) => Err(BookRefusal::Draft),
             (Phase::YearEnd(december), Call::Close) => Ok(december),
             (_, Call::Open { .. }) => Err(BookRefusal::Opened),

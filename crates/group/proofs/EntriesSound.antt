@@ -1,5 +1,5 @@
 -- No entry leaves the ranges of a group's figures.
-use Rattle.std.proofs.Common.{Err, length-set, Some, slice_get, ap, ◌∙◌, ◌≡◌, ℕ, ◌+◌, ◌*◌, ◌<◌, ◌≤◌, Ok, Result, ℤ, nat_abs, arith, subst, sym}
+use Rattle.std.proofs.Common.{Err, length-set, Some, slice_get, ap, ◌≡◌, ℕ, ◌+◌, ◌*◌, ◌<◌, ◌≤◌, Ok, Result, ℤ, nat_abs, arith, subst, sym}
 use Rattle.std.proofs.lemmas.Bool.Decides.{nat_tests}
 use Rattle.std.proofs.lemmas.Grind.{common_steps}
 use Rattle.std.proofs.lemmas.Int.{ints}
@@ -17,7 +17,6 @@ use Rattle.group.specs.Results.{Follows, and_then, made}
 use Rattle.group.specs.declared.group.Phase.{Phase}
 use Rattle.group.specs.declared.group.Phase.TheVariants.{Blank, Open, YearEnd, Over}
 use Rattle.std.proofs.lemmas.List.Elements.{All-set}
-use Rattle.std.specs.Option.{ok_or}
 use Rattle.group.specs.Groups.{altered, entered, member_at, most_in_month, room_for_entry}
 use Rattle.group.specs.declared.group.Group.{Group}
 use Rattle.group.specs.declared.refusal.BookRefusal.TheVariants as refused

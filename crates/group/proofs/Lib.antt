@@ -1,3 +1,4 @@
+pub mod Changes
 pub mod EntriesSound
 pub mod Lists
 pub mod MonthsSound

@@ -4,8 +4,8 @@ use Rattle.ledger.specs.declared.entry.Entry.{Entry}
 use Rattle.ledger.specs.declared.entry.Entry.TheVariants.{Reading, Change, Correction, Payment}
 use Rattle.group.specs.Groups.{altered}
 use Rattle.group.specs.Members.{on_account, on_register}
-use Rattle.group.specs.Payments.{paid}
-use Rattle.group.specs.Registers.{corrected, read}
+use Rattle.group.specs.Payments.{paid, payment_is_outside}
+use Rattle.group.specs.Registers.{corrected, is_beyond, is_over, read, value_is_too_large}
 use Rattle.group.specs.Results.{and_then}
 use Rattle.group.specs.declared.group.Group.{Group}
 use Rattle.group.specs.declared.group.Phase.{Phase}
@@ -24,6 +24,13 @@ open_month Over = Err NoMonth
 -- no month is open
 abbrev pub no_month_is_open : Phase → Bool
 no_month_is_open phase = is_err (open_month phase)
+
+-- a register value, a correction or a payment is out of its range
+abbrev pub amount_is_outside : Entry → Bool
+amount_is_outside (Reading at day value) = is_over value
+amount_is_outside (Change at day value start) = value_is_too_large value start
+amount_is_outside (Correction at kwh) = is_beyond kwh
+amount_is_outside (Payment place drams) = payment_is_outside drams
 
 -- the place that an entry is for
 abbrev pub place_of : Entry → ℕ

@@ -1,5 +1,5 @@
 -- A group: how it opens, and what an entry changes in it.
-use Rattle.std.specs.Prelude.{ℕ, ◌+◌, Bool, not, ◌&&◌, ◌||◌, if◌then◌else◌, List, [], map, length, nat_le, nat_lt, slice_get, sum_by, false, is_some, Ok, Err, Result}
+use Rattle.std.specs.Prelude.{ℕ, ◌+◌, Bool, not, ◌&&◌, ◌||◌, if◌then◌else◌, List, [], map, length, nat_le, nat_lt, slice_get, sum_by, false, is_none, Ok, Err, Result}
 use Rattle.std.specs.List.{list_all, list_any}
 use Rattle.std.specs.Option.{ok_or, option_map_or}
 use Rattle.arrayvec.specs.ArrayVec.{with_item}
@@ -98,7 +98,7 @@ member_at place group = ok_or (slice_get group.members.items place) refused.Plac
 
 -- the place has no record
 abbrev pub place_has_no_record : (place : ℕ) → Group → Bool
-place_has_no_record place group = not (is_some (slice_get group.members.items place))
+place_has_no_record place group = is_none (slice_get group.members.items place)
 
 -- the month has no room for one more entry
 abbrev pub month_is_full : Group → Bool

@@ -1,4 +1,5 @@
 pub mod Books
+pub mod Changes
 pub mod Drafts
 pub mod Entries
 pub mod Groups

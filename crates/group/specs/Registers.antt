@@ -1,5 +1,5 @@
 -- What a reading, a meter change and a correction do to a register.
-use Rattle.std.specs.Prelude.{ℕ, ◌-◌, Bool, not, ◌||◌, if◌then◌else◌, ℤ, pos, ◌+ℤ◌, nat_abs, nat_le, nat_lt, Option, Some, None, is_some, Ok, Err, Result}
+use Rattle.std.specs.Prelude.{ℕ, ◌-◌, Bool, not, ◌||◌, if◌then◌else◌, ℤ, pos, ◌+ℤ◌, nat_abs, nat_le, nat_lt, Option, Some, None, is_none, Ok, Err, Result}
 use Rattle.std.specs.Option.{ok_or}
 use Rattle.calendar.specs.Gregorian.{lies_in}
 use Rattle.group.specs.Results.{and_then, made}
@@ -33,7 +33,7 @@ value_is_too_large value start = is_over value || is_over start
 
 -- the value is below the one that the register stands at
 abbrev pub value_is_below : (standing value : ℕ) → Bool
-value_is_below standing value = not (is_some (quantity standing value))
+value_is_below standing value = is_none (quantity standing value)
 
 -- a tally or a correction is beyond 1,000,000 kWh either way
 abbrev pub is_beyond : ℤ → Bool

@@ -2,6 +2,7 @@
 #![tactic(auto)]
 
 pub mod group;
+pub mod law;
 pub mod member;
 pub mod payment;
 pub mod refusal;

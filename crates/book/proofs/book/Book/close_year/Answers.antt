@@ -2,6 +2,7 @@ use Rattle.std.proofs.Common.{◌≡◌, Ok, subst, arith, rules}
 use Rattle.std.proofs.lemmas.Grind.{common_steps}
 use Rattle.group.specs.declared.group.Group.{Group}
 use Rattle.group.specs.declared.group.Phase.TheVariants.{YearEnd}
+use Rattle.group.proofs.Changes.{closing_alters}
 use Rattle.group.proofs.YearsSound.{year_sound}
 use Rattle.group.specs.Sound.{Sound}
 use Rattle.balance.proofs.Theorem.{moved_goes_on, quiet_goes_on}
@@ -28,3 +29,7 @@ returns-in_err-december-clause-balance g c = quiet_goes_on g.R.SharingRule.shari
 pub returns-clause-balance : goal.returns-clause-balance
 returns-clause-balance g c =
     moved_goes_on g.R.SharingRule.sharing g.T.Tariff.price g.met.R.SharingRule.fair c.args.self.now c.self.inside.rule c.self.inside.tariff c.self.inside.group c.post_year.new.group (Closing (Ok c.year_end.result.0)) c.self.view_is (grind (arith, common_steps))
+
+pub returns-clause-holder : goal.returns-clause-holder
+returns-clause-holder g c =
+    closing_alters (g.T.Tariff.price c.args.self.now.tariff) c.args.self.now.group c.post_year.new.group (Ok c.year_end.result.0) (grind (arith, common_steps))

@@ -3,8 +3,11 @@ use Rattle.std.proofs.lemmas.Grind.{common_steps}
 use Rattle.std.proofs.lemmas.Int.{to_z-of_z}
 use Rattle.balance.proofs.Theorem.{moved_goes_on, quiet_goes_on}
 use Rattle.balance.specs.Histories.{Entering}
+use Rattle.group.proofs.Changes.{entry_alters}
 use Rattle.group.proofs.EntriesSound.{entry_follows, open_follows}
+use Rattle.group.specs.Changes.{EntersOne}
 use Rattle.group.specs.Groups.{altered}
+use Rattle.group.specs.declared.group.Group.{Group}
 use Rattle.group.specs.Members.{on_register}
 use Rattle.group.specs.Registers.{corrected}
 use Rattle.group.specs.Results.{Follows}
@@ -72,3 +75,37 @@ returns-in-Open-Payment-clause-balance g c =
 pub returns-in-Blank-default-clause-balance : goal.returns-in-Blank-default-clause-balance
 returns-in-Blank-default-clause-balance g c =
     quiet_goes_on g.R.SharingRule.sharing g.T.Tariff.price g.met.R.SharingRule.fair c.args.self.now (Entering c.args.entry _) (search rules)
+
+pub returns-in-Open-Reading-clause-one : goal.returns-in-Open-Reading-clause-one
+returns-in-Open-Reading-clause-one g c =
+    let e = c.in-Open-Reading in
+    let entry = Reading e.register e.day e.value in
+    let group = c.self.inside.group in
+    let same : group ≡ c.args.self.now.group = grind (arith, common_steps) in
+    subst (λ (old : Group). EntersOne c.args.entry old c.read.new.self) same (rw e.is-1 (entry_alters entry group _ _ (open_follows entry _ group _ _ e.is-0 c.read.ensures)))
+
+pub returns-in-Open-Change-clause-one : goal.returns-in-Open-Change-clause-one
+returns-in-Open-Change-clause-one g c =
+    let e = c.in-Open-Change in
+    let entry = Change e.register e.day e.value e.start in
+    let group = c.self.inside.group in
+    let same : group ≡ c.args.self.now.group = grind (arith, common_steps) in
+    subst (λ (old : Group). EntersOne c.args.entry old c.read-in-Open-Change.new.self) same (rw e.is-1 (entry_alters entry group _ _ (open_follows entry _ group _ _ e.is-0 c.read-in-Open-Change.ensures)))
+
+pub returns-in-Open-Correction-clause-one : goal.returns-in-Open-Correction-clause-one
+returns-in-Open-Correction-clause-one g c =
+    let e = c.in-Open-Correction in
+    let entry = Correction e.register e.quantity in
+    let group = c.self.inside.group in
+    let same : group ≡ c.args.self.now.group = grind (arith, common_steps) in
+    let exact : to_z w32 (of_z w32 e.quantity) ≡ e.quantity = grind (arith, common_steps, to_z-of_z) in
+    let P : ℤ → Type 0 = λ kwh. Follows (altered e.register.place (on_register e.register (corrected kwh)) group) group c.correct.result c.correct.new.self in
+    subst (λ (old : Group). EntersOne c.args.entry old c.correct.new.self) same (rw e.is-1 (entry_alters entry group _ _ (open_follows entry _ group _ _ e.is-0 (subst P exact c.correct.ensures))))
+
+pub returns-in-Open-Payment-clause-one : goal.returns-in-Open-Payment-clause-one
+returns-in-Open-Payment-clause-one g c =
+    let e = c.in-Open-Payment in
+    let entry = Payment e.place e.drams in
+    let group = c.self.inside.group in
+    let same : group ≡ c.args.self.now.group = grind (arith, common_steps) in
+    subst (λ (old : Group). EntersOne c.args.entry old c.pay.new.self) same (rw e.is-1 (entry_alters entry group _ _ (open_follows entry _ group _ _ e.is-0 c.pay.ensures)))

@@ -1,6 +1,5 @@
-use Rattle.std.proofs.Common.{Ok, arith, rules, sym, ◌≡◌, subst}
+use Rattle.std.proofs.Common.{Ok, arith, rules, sym, ◌≡◌}
 use Rattle.std.proofs.lemmas.Grind.{common_steps}
-use Rattle.group.specs.declared.group.Group.{Group}
 use Rattle.balance.proofs.Theorem.{moved_goes_on, quiet_goes_on}
 use Rattle.balance.specs.Histories.{Opening}
 use Rattle.group.proofs.OpeningSound.{opening_sound}
