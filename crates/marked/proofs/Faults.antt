@@ -7,14 +7,14 @@ use Rattle.fields.proofs.Lacking.{lacks_by_test}
 use Rattle.fields.specs.Cuts.{Lacks}
 use Rattle.fields.specs.Rows.{row}
 use Rattle.group.specs.declared.group.Group.{Group}
-use Rattle.journal.specs.Lines.{LineRead}
+use Rattle.journal.specs.Lines.{IsLine, LineRead, Refused}
 use Rattle.journal.specs.Rows.{Fields}
 use Rattle.journal.specs.declared.kind.Kind.TheVariants as kinds
 use Rattle.ledger.specs.declared.zone.Flow.TheVariants.{Consumed}
 use Rattle.ledger.specs.declared.zone.Zone.TheVariants.{Day}
 use Rattle.journal.specs.declared.line.Line.{Line}
 use Rattle.journal.specs.declared.line.Line.TheVariants.{Issue}
-use Rattle.journal.specs.declared.refusal.ReadRefusal.{ReadRefusal}
+use Rattle.journal.specs.declared.refusal.LineFault.{LineFault}
 use Rattle.journal.specs.declared.refusal.ReadRefusal.TheVariants as reads
 use Rattle.group.specs.declared.refusal.BookRefusal.TheVariants.{NoMonth, Place}
 use Rattle.journal.specs.Names.{journal_names}
@@ -44,7 +44,7 @@ row_long text [] = omega arith
 row_long text (next ∷ texts) = let rest = row_long next texts in omega (arith, length-append {A = ℕ}, rest)
 
 -- so a line under seven bytes has not seven fields
-few_bytes : (bs : List ℕ) → length bs ≤ 6 → LineRead bs (Err reads.Fields)
+few_bytes : (bs : List ℕ) → length bs ≤ 6 → Refused bs reads.Fields
 few_bytes bs few = λ texts fields. seven_long texts fields
   where
     seven_long : (texts : List (List ℕ)) → Fields texts bs → ⊥
@@ -55,7 +55,7 @@ few_bytes bs few = λ texts fields. seven_long texts fields
         omega (arith, length-append {A = ℕ}, few, long, fields.seven, whole)
 
 -- an issue with all fields filled, of which the second is the first wrong one
-filled : LineRead (codes "ISSUE,0,0,0,0,0,0\n") (Err (reads.Form 2))
+filled : Refused (codes "ISSUE,0,0,0,0,0,0\n") (reads.Form 2)
 filled = (
   codes "ISSUE" ∷ codes "0" ∷ codes "0" ∷ codes "0" ∷ codes "0" ∷ codes "0" ∷ codes "0" ∷ [],
   (
@@ -73,7 +73,7 @@ filled = (
     no_comma = lacks_by_test 44 (codes "0") refl
 
 -- a reading of place 2
-of_place_2 : LineRead (codes "READ,2,DAY,USE,200,-,2024-01-31\n") (Ok (reading 2 Day Consumed 8796 200))
+of_place_2 : IsLine (codes "READ,2,DAY,USE,200,-,2024-01-31\n") (reading 2 Day Consumed 8796 200)
 unfolding digits date_of_day date_after
 of_place_2 = ((omega arith, omega arith, omega arith), refl)
 
@@ -83,7 +83,7 @@ abbrev names : List ℕ
 names = codes "line,month,place,dayb,nightb,dayc,nightc,drams,debt\n"
 
 -- a body of one line that is refused
-one_line : OneOutcome → (room left : ℕ) (group : Group) (text fault : List ℕ) (answer : Result Line ReadRefusal) (refusal : RunRefusal) → room ≡ left + 52 → 4096 ≤ room → room ≤ 65536 → length text ≤ 100 → text_lines text ≡ text ∷ [] → LineRead text answer → after_reading proportion (λ month. prices) left answer group ≡ Err refusal → fault_line (fault_at 2 refusal) ≡ fault → StopsWith room group text fault
+one_line : OneOutcome → (room left : ℕ) (group : Group) (text fault : List ℕ) (answer : Result Line LineFault) (refusal : RunRefusal) → room ≡ left + 52 → 4096 ≤ room → room ≤ 65536 → length text ≤ 100 → text_lines text ≡ text ∷ [] → LineRead text 2 answer → after_reading proportion (λ month. prices) left answer group ≡ Err refusal → fault_line (fault_at 2 refusal) ≡ fault → StopsWith room group text fault
 one_line one room left group text fault answer refusal is long short few parted read refuses tells =
     body_alone one room group text names fault (stopped 2 refusal group) (omega (arith, length-append {A = ℕ}, few)) long
     (subst₂ (λ n lines. Lines n 2 lines group (stopped 2 refusal group)) (omega (arith, is)) (sym parted) (line_refused left 2 text [] answer group refusal read refuses))
@@ -93,7 +93,7 @@ pub fault_told : OneOutcome → FaultTold
 unfolding digits
 fault_told one = record {
   of_the_book = one_line one 65536 65484 two (codes "READ,2,DAY,USE,200,-,2024-01-31\n") (codes "FAULT,2,0,BOOK,13\n") (Ok (reading 2 Day Consumed 8796 200)) (refused.Book Place) refl (lit≤ tt) (lit≤ tt) (lit≤ tt) refl of_place_2 refl refl;
-  of_a_field = one_line one 65536 65484 two (codes "READ,0,DAY,GIVE,900,-,2023-02-29\n") (codes "FAULT,2,7,TEXT,26\n") (Err (reads.Form 7)) (refused.Line (reads.Form 7)) refl (lit≤ tt) (lit≤ tt) (lit≤ tt) refl read_or_refused.no_leap_day_of_2023 refl refl;
+  of_a_field = one_line one 65536 65484 two (codes "READ,0,DAY,GIVE,900,-,2023-02-29\n") (codes "FAULT,2,7,TEXT,26\n") (Err (record { line = 2; refusal = reads.Form 7 })) (refused.Line (reads.Form 7)) refl (lit≤ tt) (lit≤ tt) (lit≤ tt) refl (read_or_refused.no_leap_day_of_2023 2) refl refl;
 }
 
 -- without the line of names there is no journal
@@ -125,8 +125,8 @@ unfolding digits
 lines_in_order one = record {
   journal = alone one 4095 year_end (codes "ISSUE\n") [] (codes "FAULT,1,0,TEXT,24\n") (stopped 1 refused.Journal year_end) (no_journal no_names) (refl, refl);
   room = alone one 4095 year_end (journal_names ++ codes "ISSUE\n") [] (codes "FAULT,1,0,TEXT,27\n") (stopped 1 refused.Room year_end) (no_room (codes "ISSUE\n") (lit≤ tt, refl) (lit≤ tt)) (refl, refl);
-  fields = one_line one 4096 4044 year_end (codes "ISSUE\n") (codes "FAULT,2,0,TEXT,25\n") (Err reads.Fields) (refused.Line reads.Fields) refl (lit≤ tt) (lit≤ tt) (lit≤ tt) refl (few_bytes (codes "ISSUE\n") (lit≤ tt)) refl refl;
-  form = one_line one 4096 4044 year_end (codes "ISSUE,0,0,0,0,0,0\n") (codes "FAULT,2,2,TEXT,26\n") (Err (reads.Form 2)) (refused.Line (reads.Form 2)) refl (lit≤ tt) (lit≤ tt) (lit≤ tt) refl filled refl refl;
+  fields = one_line one 4096 4044 year_end (codes "ISSUE\n") (codes "FAULT,2,0,TEXT,25\n") (Err (record { line = 2; refusal = reads.Fields })) (refused.Line reads.Fields) refl (lit≤ tt) (lit≤ tt) (lit≤ tt) refl (refl, few_bytes (codes "ISSUE\n") (lit≤ tt)) refl refl;
+  form = one_line one 4096 4044 year_end (codes "ISSUE,0,0,0,0,0,0\n") (codes "FAULT,2,2,TEXT,26\n") (Err (record { line = 2; refusal = reads.Form 2 })) (refused.Line (reads.Form 2)) refl (lit≤ tt) (lit≤ tt) (lit≤ tt) refl (refl, filled) refl refl;
   book = one_line one 4096 4044 year_end issue (codes "FAULT,2,0,BOOK,11\n") (Ok Issue) (refused.Book NoMonth) refl (lit≤ tt) (lit≤ tt) (lit≤ tt) refl issue_read refl refl;
   room_later = one_line one 4096 4044 two issue (codes "FAULT,2,0,TEXT,27\n") (Ok Issue) refused.Room refl (lit≤ tt) (lit≤ tt) (lit≤ tt) refl issue_read refl refl;
   accepted = accepted one;

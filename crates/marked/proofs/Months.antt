@@ -9,7 +9,7 @@ use Rattle.group.specs.declared.group.Group.{Group}
 use Rattle.group.specs.declared.member.OpeningRecord.{OpeningRecord}
 use Rattle.group.specs.declared.member.Member.{Member}
 use Rattle.group.specs.declared.register.Register.{Register}
-use Rattle.journal.specs.Lines.{LineRead}
+use Rattle.journal.specs.Lines.{IsLine}
 use Rattle.ledger.specs.declared.entry.Entry.TheVariants.{Reading}
 use Rattle.ledger.specs.declared.zone.Flow.{Flow}
 use Rattle.ledger.specs.declared.zone.Flow.TheVariants.{Consumed, Delivered}
@@ -33,23 +33,23 @@ use Rattle.two.specs.Two.{household, prices, producer, two}
 abbrev pub reading : (place : ℕ) → Zone → Flow → (day value : ℕ) → Line
 reading place zone flow day value = Enter (Reading (record { place = place; zone = zone; flow = flow }) day value)
 
-given_read : LineRead (codes "READ,0,DAY,GIVE,900,-,2024-01-31\n") (Ok (reading 0 Day Delivered 8796 900))
+given_read : IsLine (codes "READ,0,DAY,GIVE,900,-,2024-01-31\n") ((reading 0 Day Delivered 8796 900))
 unfolding digits date_of_day date_after
 given_read = ((omega arith, omega arith, omega arith), refl)
 
-used_read : LineRead (codes "READ,0,DAY,USE,200,-,2024-01-31\n") (Ok (reading 0 Day Consumed 8796 200))
+used_read : IsLine (codes "READ,0,DAY,USE,200,-,2024-01-31\n") ((reading 0 Day Consumed 8796 200))
 unfolding digits date_of_day date_after
 used_read = ((omega arith, omega arith, omega arith), refl)
 
-by_day_read : LineRead (codes "READ,1,DAY,USE,1000,-,2024-01-31\n") (Ok (reading 1 Day Consumed 8796 1000))
+by_day_read : IsLine (codes "READ,1,DAY,USE,1000,-,2024-01-31\n") ((reading 1 Day Consumed 8796 1000))
 unfolding digits date_of_day date_after
 by_day_read = ((omega arith, omega arith, omega arith), refl)
 
-by_night_read : LineRead (codes "READ,1,NIGHT,USE,33,-,2024-01-31\n") (Ok (reading 1 Night Consumed 8796 33))
+by_night_read : IsLine (codes "READ,1,NIGHT,USE,33,-,2024-01-31\n") ((reading 1 Night Consumed 8796 33))
 unfolding digits date_of_day date_after
 by_night_read = ((omega arith, omega arith, omega arith), refl)
 
-pub issue_read : LineRead (codes "ISSUE,-,-,-,-,-,-\n") (Ok Issue)
+pub issue_read : IsLine (codes "ISSUE,-,-,-,-,-,-\n") Issue
 issue_read = (tt, refl)
 
 -- ---- the group after each

@@ -1,10 +1,10 @@
 -- From the lines of a journal to what its run comes to.
 use Rattle.std.proofs.Common.{◌≡◌, ℕ, ◌+◌, ◌-◌, ◌≤◌, List, ◌∷◌, ◌++◌, length, Ok, Err, Result, refl, sym, subst}
 use Rattle.group.specs.declared.group.Group.{Group}
-use Rattle.journal.specs.Lines.{LineRead}
+use Rattle.journal.specs.Lines.{IsLine, LineRead}
 use Rattle.journal.specs.Names.{journal_names}
 use Rattle.journal.specs.declared.line.Line.{Line}
-use Rattle.journal.specs.declared.refusal.ReadRefusal.{ReadRefusal}
+use Rattle.journal.specs.declared.refusal.LineFault.{LineFault}
 use Rattle.marked.specs.Runs.{RunsTo, Tells, TwoRuns}
 use Rattle.settlement.specs.Output.{output_names}
 use Rattle.settlement.specs.Laws.{OneOutcome}
@@ -24,12 +24,12 @@ abbrev Rest : (room number : ℕ) → List (List ℕ) → List ℕ → Group →
 Rest room number lines text new later = Lines (room - length text) (number + 1) lines new later
 
 -- a line that is read and done, and then the rest
-pub line_done : (room number : ℕ) (text written : List ℕ) (lines : List (List ℕ)) (line : Line) (group new : Group) (later : Ran) → LineRead text (Ok line) → after_line proportion (λ month. prices) room line group ≡ Ok (written, new) → Lines (room - length written) (number + 1) lines new later → Lines room number (text ∷ lines) group (after_text written later)
+pub line_done : (room number : ℕ) (text written : List ℕ) (lines : List (List ℕ)) (line : Line) (group new : Group) (later : Ran) → IsLine text line → after_line proportion (λ month. prices) room line group ≡ Ok (written, new) → Lines (room - length written) (number + 1) lines new later → Lines room number (text ∷ lines) group (after_text written later)
 line_done room number text written lines line group new later read done rest =
     (Ok line, read, subst (λ (step : Result (List ℕ × Group) RunRefusal). GoesOn number group step (Rest room number lines) (after_text written later)) (sym done) (later, rest, refl))
 
 -- a line that is refused
-pub line_refused : (room number : ℕ) (text : List ℕ) (lines : List (List ℕ)) (reading : Result Line ReadRefusal) (group : Group) (refusal : RunRefusal) → LineRead text reading → after_reading proportion (λ month. prices) room reading group ≡ Err refusal → Lines room number (text ∷ lines) group (stopped number refusal group)
+pub line_refused : (room number : ℕ) (text : List ℕ) (lines : List (List ℕ)) (reading : Result Line LineFault) (group : Group) (refusal : RunRefusal) → LineRead text number reading → after_reading proportion (λ month. prices) room reading group ≡ Err refusal → Lines room number (text ∷ lines) group (stopped number refusal group)
 line_refused room number text lines reading group refusal read refused =
     (reading, read, subst (λ (step : Result (List ℕ × Group) RunRefusal). GoesOn number group step (Rest room number lines) (stopped number refusal group)) (sym refused) refl)
 

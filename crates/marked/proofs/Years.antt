@@ -9,7 +9,7 @@ use Rattle.group.specs.declared.group.Group.{Group}
 use Rattle.group.specs.declared.member.Member.{Member}
 use Rattle.group.specs.declared.member.OpeningRecord.{OpeningRecord}
 use Rattle.group.specs.declared.register.Register.{Register}
-use Rattle.journal.specs.Lines.{LineRead}
+use Rattle.journal.specs.Lines.{IsLine}
 use Rattle.ledger.specs.declared.entry.Entry.TheVariants.{Change, Correction, Payment}
 use Rattle.ledger.specs.declared.zone.Flow.TheVariants.{Consumed, Delivered}
 use Rattle.ledger.specs.declared.zone.Zone.TheVariants.{Day, Night}
@@ -38,31 +38,31 @@ change = Enter (Change (record { place = 1; zone = Day; flow = Consumed }) 8744 
 abbrev correction : (place : ℕ) → (kwh : ℤ) → Line
 correction place kwh = Enter (Correction (record { place = place; zone = Night; flow = Consumed }) kwh)
 
-given_read : LineRead (codes "READ,0,DAY,GIVE,500,-,2023-12-31\n") (Ok (reading 0 Day Delivered 8765 500))
+given_read : IsLine (codes "READ,0,DAY,GIVE,500,-,2023-12-31\n") ((reading 0 Day Delivered 8765 500))
 unfolding digits date_of_day date_after
 given_read = ((omega arith, omega arith, omega arith), refl)
 
-change_read : LineRead (codes "SWAP,1,DAY,USE,300,5,2023-12-10\n") (Ok change)
+change_read : IsLine (codes "SWAP,1,DAY,USE,300,5,2023-12-10\n") change
 unfolding digits date_of_day date_after
 change_read = ((omega arith, omega arith, omega arith, omega arith), refl)
 
-used_read : LineRead (codes "READ,1,DAY,USE,105,-,2023-12-31\n") (Ok (reading 1 Day Consumed 8765 105))
+used_read : IsLine (codes "READ,1,DAY,USE,105,-,2023-12-31\n") ((reading 1 Day Consumed 8765 105))
 unfolding digits date_of_day date_after
 used_read = ((omega arith, omega arith, omega arith), refl)
 
-more_read : LineRead (codes "CORR,1,NIGHT,USE,33,-,-\n") (Ok (correction 1 (pos 33)))
+more_read : IsLine (codes "CORR,1,NIGHT,USE,33,-,-\n") ((correction 1 (pos 33)))
 unfolding digits
 more_read = ((omega arith, lit≤ tt), refl)
 
-less_read : LineRead (codes "CORR,0,NIGHT,USE,-7,-,-\n") (Ok (correction 0 (negsuc 6)))
+less_read : IsLine (codes "CORR,0,NIGHT,USE,-7,-,-\n") ((correction 0 (negsuc 6)))
 unfolding digits
 less_read = ((omega arith, lit≤ tt), refl)
 
-payment_read : LineRead (codes "PAY,1,-,-,1000,-,-\n") (Ok (Enter (Payment 1 1000)))
+payment_read : IsLine (codes "PAY,1,-,-,1000,-,-\n") ((Enter (Payment 1 1000)))
 unfolding digits
 payment_read = ((omega arith, omega arith), refl)
 
-year_read : LineRead (codes "YEAR,-,-,-,-,-,-\n") (Ok Year)
+year_read : IsLine (codes "YEAR,-,-,-,-,-,-\n") Year
 year_read = (tt, refl)
 
 -- ---- the group after each
