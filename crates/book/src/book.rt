@@ -31,7 +31,7 @@ use std::marker::Model;
 use tariff::tariff::Tariff;
 
 /// The settlement book of a group, settled by a sharing rule and a tariff.
-#[derive(Drop)]
+#[derive(Drop, Debug)]
 pub struct Book<R, T> {
     rule: R,
     tariff: T,
@@ -146,7 +146,8 @@ impl<R: SharingRule, T: Tariff> Book<R, T> {
 
     /// Makes an entry in the open month.
     pub fn enter(&mut self, entry: Entry) -> Result<(), BookRefusal>
-        ensures group { Follows (after_entry entry self.old.group) self.old.group result self.new.group }
+        ensures group { Follows (after_entry entry self.old.group)
+            self.old.group result self.new.group }
         ensures one { EntersOne entry self.old.group self.new.group }
         ensures terms { SameTerms self.old self.new }
         ensures balance { GoesOnBalanced R.SharingRule.sharing T.Tariff.price
@@ -201,7 +202,9 @@ impl<R: SharingRule, T: Tariff> Book<R, T> {
             self.now.group lines.old)
             lines.old result lines.new }
         ensures balance { GoesOnBalanced R.SharingRule.sharing T.Tariff.price
-            self.now (Drawing (length lines.old) (drawing_told result (lines_in self.now.group lines.new))) self.now }
+            self.now
+            (Drawing (length lines.old) (drawing_told result (lines_in self.now.group lines.new)))
+            self.now }
     {
         let month = self.month_for(Call::Draw {
             places: lines.len(),
@@ -223,12 +226,15 @@ impl<R: SharingRule, T: Tariff> Book<R, T> {
     /// Takes the draft, posts the month's figures, writes the lines of a drawing made now into a slice, and opens what follows.
     pub fn issue(&mut self, draft: Draft, lines: &mut [Bill]) -> Result<(), BookRefusal>
         ensures group { Follows
-            (after_issue (R.SharingRule.sharing self.old.rule) (T.Tariff.price self.old.tariff) draft
-            (self.old.group, lines.old))
+            (after_issue (R.SharingRule.sharing self.old.rule) (T.Tariff.price self.old.tariff)
+            draft (self.old.group, lines.old))
             (self.old.group, lines.old) result (self.new.group, lines.new) }
         ensures terms { SameTerms self.old self.new }
         ensures balance { GoesOnBalanced R.SharingRule.sharing T.Tariff.price
-            self.old (Issuing draft (length lines.old) (issue_told result (lines_in self.old.group lines.new))) self.new }
+            self.old
+            (Issuing draft (length lines.old)
+            (issue_told result (lines_in self.old.group lines.new)))
+            self.new }
     {
         let current = self.is_current(&draft);
         self.withdraw(draft);

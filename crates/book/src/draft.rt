@@ -7,6 +7,7 @@ use group::group::Group;
 use std::marker::Model;
 
 /// A draft of a month's bills. It can be neither copied nor dropped: only drawing makes one, and it ends in an issue or a withdrawal.
+#[derive(Debug)]
 pub struct Draft {
     // The number of the group that it was drawn of.
     number: u32,

@@ -1,5 +1,5 @@
 -- What a payment does to an account.
-use Rattle.std.specs.Prelude.{ℕ, Bool, ◌||◌, if◌then◌else◌, ℤ, pos, negsuc, ◌-ℤ◌, int_lt, nat_lt, Ok, Err, Result}
+use Rattle.std.specs.Prelude.{ℕ, Bool, ◌||◌, if◌then◌else◌, ℤ, pos, neg_ℤ, ◌-ℤ◌, int_lt, nat_lt, Ok, Err, Result}
 use Rattle.billing.specs.declared.account.Account.{Account}
 use Rattle.group.specs.declared.refusal.BookRefusal.{BookRefusal}
 use Rattle.group.specs.declared.refusal.BookRefusal.TheVariants.{Value, Debt}
@@ -8,9 +8,9 @@ use Rattle.group.specs.declared.refusal.BookRefusal.TheVariants.{Value, Debt}
 abbrev pub most_payment : ℕ
 most_payment = 100000000
 
--- the lowest debt that a payment may leave, in drams
-abbrev pub least_debt : ℤ
-least_debt = negsuc 999999999
+-- the most that a payment may leave a member to have paid in advance, in drams
+abbrev pub most_in_advance : ℕ
+most_in_advance = 1000000000
 
 -- a payment is not of 1 to 100,000,000 drams
 abbrev pub payment_is_outside : (drams : ℕ) → Bool
@@ -18,7 +18,7 @@ payment_is_outside drams = nat_lt drams 1 || nat_lt most_payment drams
 
 -- a payment would leave a debt below -1,000,000,000 drams
 abbrev pub debt_would_be_too_low : (drams : ℕ) → Account → Bool
-debt_would_be_too_low drams account = int_lt (account.debt -ℤ pos drams) least_debt
+debt_would_be_too_low drams account = int_lt (account.debt -ℤ pos drams) (neg_ℤ (pos most_in_advance))
 
 -- the account after a payment
 abbrev pub paid : (drams : ℕ) → Account → Result Account BookRefusal

@@ -6,7 +6,9 @@ use Rattle.billing.specs.declared.account.Account.{Account}
 use Rattle.billing.specs.declared.supply.Supply.{Supply}
 use Rattle.ledger.specs.declared.zone.ByZone.{ByZone}
 use Rattle.ledger.specs.declared.zone.Zone.{Zone}
-use Rattle.group.specs.Groups.{blank}
+use Rattle.group.specs.Groups.{blank, most_in_month, most_members}
+use Rattle.group.specs.Payments.{most_in_advance}
+use Rattle.group.specs.Registers.{most_standing, most_tally}
 use Rattle.group.specs.declared.group.Group.{Group}
 use Rattle.group.specs.declared.group.Phase.{Phase}
 use Rattle.group.specs.declared.group.Phase.TheVariants.{Blank, Open, YearEnd, Over}
@@ -15,8 +17,8 @@ use Rattle.group.specs.declared.register.Register.{Register}
 
 -- a register of seven digits, and a tally of up to 1,000,000 kWh either way
 pub record SoundRegister (register : Register) : Type 0 where
-  pub standing : register.standing ≤ 9999999
-  pub tally : nat_abs register.tally ≤ 1000000
+  pub standing : register.standing ≤ most_standing
+  pub tally : nat_abs register.tally ≤ most_tally
 
 -- both registers of a zone
 pub record SoundFlows (flows : ByFlow Register) : Type 0 where
@@ -34,9 +36,9 @@ pub record SoundMember (owed : ℕ) (member : Member) : Type 0 where
 -- a month moves a debt by less than 100,000,000,000, and a year's end by less than 1,900,000,000,000
 abbrev pub most_owed : Phase → ℕ
 most_owed Blank = 0
-most_owed (Open month) = 1000000000 + 2000000000000 * month
-most_owed (YearEnd december) = 101000000000 + 2000000000000 * december
-most_owed Over = 1000000000 + 2000000000000 * 1200
+most_owed (Open month) = most_in_advance + 2000000000000 * month
+most_owed (YearEnd december) = most_in_advance + 100000000000 + 2000000000000 * december
+most_owed Over = most_in_advance + 2000000000000 * 1200
 
 -- the most that a zone carries in a phase: 32 members have at most 64,000,000 kWh over in each month since January
 abbrev pub most_carried : Phase → ℕ
@@ -48,7 +50,7 @@ most_carried Over = 0
 -- the most entries in a phase: an open month takes up to 1,000, and elsewhere there are none
 abbrev pub most_entries : Phase → ℕ
 most_entries Blank = 0
-most_entries (Open month) = 1000
+most_entries (Open month) = most_in_month
 most_entries (YearEnd december) = 0
 most_entries Over = 0
 
@@ -61,7 +63,7 @@ SoundPhase Over holder members = holder < members
 
 -- the figures of the group are in their ranges, its phase has the months and the members that it may have, and before its opening it is the blank one
 pub record Sound (group : Group) : Type 0 where
-  pub few : length group.members.items ≤ 32
+  pub few : length group.members.items ≤ most_members
   pub each : All (SoundMember (most_owed group.phase)) group.members.items
   pub carried : (zone : Zone) → in_zone group.carried zone ≤ most_carried group.phase
   pub entries : group.entries ≤ most_entries group.phase

@@ -36,7 +36,7 @@ pub enum Phase {
 }
 
 /// A group.
-#[derive(Drop)]
+#[derive(Drop, Debug)]
 pub struct Group {
     /// The number of the group.
     pub number: u32,
@@ -97,7 +97,8 @@ impl Group {
     pub fn read(&mut self, month: Month, reading: MeterReading) -> Result<(), BookRefusal>
         ensures { Follows
             (altered reading.register.place
-            (on_register reading.register (read month reading.day reading.value reading.start)) self.old)
+            (on_register reading.register
+            (read month reading.day reading.value reading.start)) self.old)
             self.old result self.new }
     {
         let mut member = self.member_at(reading.register.place)?;
@@ -121,7 +122,8 @@ impl Group {
 
     /// Enters a payment in drams by the member at a place where the caller has seen that a month is open.
     pub fn pay(&mut self, place: usize, drams: u32) -> Result<(), BookRefusal>
-        ensures { Follows (altered place (on_account (paid drams)) self.old) self.old result self.new }
+        ensures { Follows (altered place (on_account (paid drams)) self.old)
+            self.old result self.new }
     {
         let mut member = self.member_at(place)?;
         self.room_for_entry()?;

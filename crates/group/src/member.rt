@@ -117,7 +117,8 @@ impl Member {
     // Enters what is read of a register.
     pub(crate) fn read(&mut self, month: Month, reading: MeterReading) -> Result<(), BookRefusal>
         ensures { Follows
-            (on_register reading.register (read month reading.day reading.value reading.start) self.old)
+            (on_register reading.register
+            (read month reading.day reading.value reading.start) self.old)
             self.old result self.new }
     {
         let register = self.register_at(reading.register).read(month, reading)?;
