@@ -1,13 +1,15 @@
 -- What the program prints for a journal.
 use Rattle.std.specs.Prelude.{◌≡◌, ℕ, List, [], ◌++◌, None, Option, Some}
+use Rattle.cells.specs.Cells.{Put}
 use Rattle.settlement.specs.Faults.{fault_line}
 use Rattle.settlement.specs.Runs.{Ran, RunsOver}
 use Rattle.settlement.specs.declared.fault.RunFault.{RunFault}
 use Rattle.sharing.specs.Rules.{proportion}
 use Rattle.two.specs.Two.{prices, two}
+use Rattle.two.specs.declared.program.Lengths.{Lengths}
 
 -- the line of a fault, where there is one
-abbrev fault_text : Option RunFault → List ℕ
+abbrev pub fault_text : Option RunFault → List ℕ
 fault_text None = []
 fault_text (Some fault) = fault_line fault
 
@@ -22,3 +24,12 @@ pub record Printed (journal printed : List ℕ) : Type 0 where
   pub fault : Option RunFault
   pub output : OutputWritten journal text fault
   pub whole : printed ≡ text ++ fault_text fault
+
+-- of two slices one holds what the run writes at its start and the other the line of the fault that it stops at, as long as
+-- is told, and the rest of each is as it was
+pub record PrintsJournal (journal : List ℕ) (old : List ℕ × List ℕ) (lengths : Lengths) (new : List ℕ × List ℕ) : Type 0 where
+  pub text : List ℕ
+  pub fault : Option RunFault
+  pub run : OutputWritten journal text fault
+  pub output : Put old.0 0 text new.0 lengths.output
+  pub line : Put old.1 0 (fault_text fault) new.1 lengths.fault

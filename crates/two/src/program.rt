@@ -1,64 +1,70 @@
 //! The program over standard input and output.
-ghost use Rattle.std.specs.Prelude.{◌≡◌, IfOk, length};
-ghost use Rattle.settlement.specs.Faults.{fault_line};
-ghost use Rattle.two.specs.Printing.{OutputWritten, Printed};
+ghost use Rattle.std.specs.Prelude.{◌≤◌, ◌++◌, take};
+ghost use Rattle.cells.specs.Cells.{Put};
+ghost use Rattle.two.specs.Printing.{Printed, PrintsJournal, fault_text};
 
 use crate::two::settle_two;
 use settlement::fault::RunFault;
 use settlement::fault_line::{FAULT_ROOM, write_fault};
 use settlement::run::MOST_JOURNAL;
-use std::alloc::{AllocError, Global};
 use std::io;
 use std::io::{Read, Write};
 
 /// The room for the output, in bytes.
 pub const OUTPUT: usize = 65_536;
 
-/// What the program prints for a journal: the output, and then the line of the fault if there is one.
-pub fn printed(alloc: Global, journal: &[u8]) -> Result<Vec<u8>, AllocError>
-    ensures { IfOk result (λ text. Printed journal.now text.items) }
+/// How much of its two slices the program prints for a journal.
+#[derive(Clone, Copy, PartialEq, Eq, Debug)]
+pub struct Lengths {
+    /// The bytes of the output.
+    pub output: usize,
+    /// The bytes of the line of the fault, or 0 where there is none.
+    pub fault: usize,
+}
+
+/// Writes what the program prints for a journal: the output at the start of one slice, and the line of the fault, if there is one, at that of another.
+pub fn write_printed(
+    journal: &[u8],
+    output: &mut [u8; OUTPUT],
+    line: &mut [u8; FAULT_ROOM],
+) -> Lengths
+    ensures slices { PrintsJournal journal.now (output.old, line.old) result (output.new, line.new) }
+    ensures printed { Printed journal.now
+        (take result.output output.new ++ take result.fault line.new) }
+    ensures output { result.output ≤ 65536 }
+    ensures fault { result.fault ≤ 64 }
 {
-    let mut text = room(alloc)?;
-    if let Some(fault) = write_output(journal, &mut text) {
-        text.extend_from_slice(line_of(fault, &mut [0; FAULT_ROOM]))?;
+    let outcome = settle_two(journal, output);
+    Lengths {
+        output: outcome.written,
+        fault: write_line(outcome.fault, line),
     }
-    Ok(text)
 }
 
-// The room for the output.
-fn room(alloc: Global) -> Result<Vec<u8>, AllocError>
-    ensures { IfOk result (λ room. length room.items ≡ 65536) }
+// Writes the line of a fault, which any such room holds, and answers its length.
+fn write_line(fault: Option<RunFault>, line: &mut [u8; FAULT_ROOM]) -> usize
+    ensures written { Put line.old 0 (fault_text fault) line.new result }
+    ensures within_64 { result ≤ 64 }
 {
-    vec![in alloc; 0; OUTPUT]
-}
-
-// Runs the journal, and leaves the output alone in its room; answers the fault.
-fn write_output(journal: &[u8], room: &mut Vec<u8>) -> Option<RunFault>
-    requires { length room.old.items ≡ 65536 }
-    ensures { OutputWritten journal.now room.new.items result }
-{
-    let outcome = settle_two(journal, room);
-    room.truncate(outcome.written);
-    outcome.fault
-}
-
-// The line of a fault, which any such room holds.
-fn line_of(fault: RunFault, room: &mut [u8; FAULT_ROOM]) -> &[u8]
-    ensures { result.now ≡ fault_line fault }
-{
-    let Ok(end) = write_fault(fault, room) else {
+    let Some(fault) = fault else {
+        return 0;
+    };
+    let Ok(end) = write_fault(fault, line) else {
         unreachable!()
     };
-    &room[..end]
+    end
 }
 
 /// Prints what the journal on standard input comes to.
 pub fn settle_input(rt: HostRuntime) -> io::Result<()> {
-    let alloc = rt.alloc();
-    let mut journal = Vec::new(alloc);
+    let mut journal = Vec::new(rt.alloc());
     // One byte past the limit tells that a journal is too long, so no more is kept.
     let limit = MOST_JOURNAL as u64 + 1;
     rt.stdin().take(limit).read_to_end(&mut journal)?;
-    let text = printed(alloc, &journal)?;
-    rt.stdout().write_all(&text)
+    let mut output = [0; OUTPUT];
+    let mut line = [0; FAULT_ROOM];
+    let lengths = write_printed(&journal, &mut output, &mut line);
+    let mut stdout = rt.stdout();
+    stdout.write_all(&output[..lengths.output])?;
+    stdout.write_all(&line[..lengths.fault])
 }
