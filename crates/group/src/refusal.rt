@@ -1,6 +1,9 @@
 //! Why a call on the book is turned away.
-ghost use Rattle.std.specs.Prelude.{◌≡◌};
-ghost use Rattle.group.specs.Refusals.{number_of};
+ghost use Rattle.std.specs.Prelude.{◌≡◌, Some};
+ghost use Rattle.group.specs.Refusals.{meaning, number_of};
+
+use std::error::Error;
+use std::fmt;
 
 /// The refusals of the book's calls.
 #[derive(Clone, Copy, PartialEq, Eq, Debug)]
@@ -66,4 +69,42 @@ impl BookRefusal {
             BookRefusal::Draft => 21,
         }
     }
+
+    // What the refusal stands for, in words.
+    fn words(self) -> &'static str
+        ensures { result.now ≡ (meaning self).words }
+    {
+        match self {
+            BookRefusal::Opened => "the book is open already",
+            BookRefusal::Count => "a group has 1 to 32 members",
+            BookRefusal::Start => "no book opens after December 2099",
+            BookRefusal::Capacity => "a member has over 150 kW, or all together have over 1050 kW",
+            BookRefusal::Holder => "the holder has no capacity",
+            BookRefusal::Register => "a register opens with more than seven digits",
+            BookRefusal::NoMonth => "no month is open",
+            BookRefusal::NoYearEnd => "no year waits for its closing",
+            BookRefusal::Place => "nobody has this place",
+            BookRefusal::Full => "the month has its 1000 entries already",
+            BookRefusal::Day => "the day is not one of the open month",
+            BookRefusal::Value => "the value, the correction or the payment is out of its range",
+            BookRefusal::Below => "the register stands higher already",
+            BookRefusal::Tally => {
+                "the register would have over 1000000 kWh in the month, either way"
+            }
+            BookRefusal::Debt => "the member would have paid over 1000000000 drams in advance",
+            BookRefusal::Lines => "there are more members than places for lines",
+            BookRefusal::Draft => "the draft is out of date",
+        }
+    }
 }
+
+// By hand, as the words are proved.
+impl fmt::Display for BookRefusal {
+    ghost output = { λ refusal. Some (meaning refusal).words };
+
+    fn fmt<W: fmt::Write>(&self, f: &mut fmt::Formatter<W>) -> fmt::Result {
+        write!(f, "{}", self.words())
+    }
+}
+
+impl Error for BookRefusal {}

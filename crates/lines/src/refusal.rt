@@ -1,9 +1,11 @@
 //! Why a line is not read or not written.
-ghost use Rattle.std.specs.Prelude.{◌≡◌};
-ghost use Rattle.lines.specs.Refusals.{read_number, write_number};
+ghost use Rattle.std.specs.Prelude.{◌≡◌, Some};
+ghost use Rattle.lines.specs.Refusals.{read_number, read_words, write_number};
 ghost use Rattle.lines.specs.declared.refusal.ReadRefusal.TheVariants.{Form};
 
 use fields::field::WrongField;
+use std::error::Error;
+use std::fmt;
 
 /// The refusal of the reader of a line.
 #[derive(Clone, Copy, PartialEq, Eq, Debug)]
@@ -29,6 +31,22 @@ impl ReadRefusal {
         }
     }
 }
+
+// By hand, here and below: a derive of the kit states no words, and these are proved.
+impl fmt::Display for ReadRefusal {
+    ghost output = { λ refusal. Some (read_words refusal) };
+
+    fn fmt<W: fmt::Write>(&self, f: &mut fmt::Formatter<W>) -> fmt::Result {
+        match self {
+            ReadRefusal::Fields => write!(f, "this is no whole line of seven fields"),
+            ReadRefusal::Form { .. } => {
+                write!(f, "this is not written as its place in the line asks")
+            }
+        }
+    }
+}
+
+impl Error for ReadRefusal {}
 
 // By hand: a derive would not state the case that `?` makes.
 impl From<WrongField> for ReadRefusal {
