@@ -1,10 +1,10 @@
 -- Where and why a run stops: the number, the field and the layer of each refusal, and the line that tells a fault.
-use Rattle.std.specs.Prelude.{◌≡◌, ℕ, ◌<◌, ◌≤◌, List, [], ◌∷◌, length, None, Option, Some, Ok, Err, codes, decimal, Result}
+use Rattle.std.specs.Prelude.{◌≡◌, ℕ, ◌<◌, ◌≤◌, List, [], ◌∷◌, ◌++◌, length, None, Option, Some, Ok, Err, codes, decimal, Result}
 use Rattle.std.specs.Option.{unwrap_or}
 use Rattle.cells.specs.Cells.{overwritten}
 use Rattle.fields.specs.Rows.{line_of}
-use Rattle.group.specs.Refusals.{number_of as book_number}
-use Rattle.journal.specs.Refusals.{read_number}
+use Rattle.group.specs.Refusals.{meaning, number_of as book_number}
+use Rattle.journal.specs.Refusals.{read_number, read_words}
 use Rattle.journal.specs.declared.refusal.ReadRefusal.TheVariants.{Fields, Form}
 use Rattle.settlement.specs.declared.fault.Layer.{Layer}
 use Rattle.settlement.specs.declared.fault.Layer.TheVariants as layers
@@ -20,6 +20,13 @@ number_of Journal = 24
 number_of (Line refusal) = read_number refusal
 number_of (Book refusal) = book_number refusal
 number_of Room = 27
+
+-- the same refusal in words
+abbrev pub words_of : RunRefusal → List ℕ
+words_of Journal = codes "the journal is over 65536 bytes, or does not begin with its line of names"
+words_of (Line refusal) = read_words refusal
+words_of (Book refusal) = (meaning refusal).words
+words_of Room = codes "the output has under 4096 bytes left"
 
 -- the first field that has not its form, where that is why
 abbrev pub field_of : RunRefusal → Option ℕ
@@ -40,6 +47,18 @@ layer_of Room = layers.Text
 abbrev pub fault_at : (line : ℕ) → RunRefusal → RunFault
 fault_at line refusal =
     record { line = line; field = field_of refusal; layer = layer_of refusal; refusal = refusal }
+
+-- words behind their line, and behind the field where one is meant
+abbrev placed : (line : ℕ) → (field : Option ℕ) → (words : List ℕ) → List ℕ
+placed line None words = codes "line " ++ (decimal line ++ (codes ": " ++ words))
+placed line (Some field) words =
+    codes "line " ++ (decimal line ++ (codes ", field " ++ (decimal field ++ (codes ": " ++ words))))
+
+-- a fault in words, with the number of its refusal
+abbrev pub fault_told : RunFault → List ℕ
+fault_told fault =
+    placed fault.line fault.field
+    (words_of fault.refusal ++ (codes " (" ++ (decimal (number_of fault.refusal) ++ codes ")")))
 
 -- the word of a layer
 abbrev pub layer_word : Layer → List ℕ

@@ -13,6 +13,10 @@ use Rattle.settlement.specs.declared.refusal.OutputRefusal.TheVariants.{Room}
 abbrev pub output_number : OutputRefusal → ℕ
 output_number Room = 27
 
+-- the same refusal in words
+abbrev pub output_words : OutputRefusal → List ℕ
+output_words Room = codes "the slice has less room than the line is given"
+
 -- the line of names of the output
 abbrev pub output_names : List ℕ
 output_names = codes "line,month,place,dayb,nightb,dayc,nightc,drams,debt\n"

@@ -1,10 +1,19 @@
 //! Where and why a run stops.
-ghost use Rattle.std.specs.Prelude.{◌≡◌};
-ghost use Rattle.settlement.specs.Faults.{fault_at, field_of, layer_of, number_of};
+ghost use Rattle.std.specs.Prelude.{◌≡◌, Some};
+ghost use Rattle.settlement.specs.Faults.{
+  fault_at,
+  fault_told,
+  field_of,
+  layer_of,
+  number_of,
+  words_of,
+};
 ghost use Rattle.settlement.specs.declared.fault.RunRefusal.TheVariants as refused;
 
 use group::refusal::BookRefusal;
 use journal::refusal::{LineFault, ReadRefusal};
+use std::error::Error;
+use std::fmt;
 
 // The line of a fault until the loop over the lines tells it.
 pub(crate) const NO_LINE: usize = 0;
@@ -65,6 +74,25 @@ impl RunRefusal {
     }
 }
 
+// By hand, here and below: a derive of the kit states no words, and these are proved.
+impl fmt::Display for RunRefusal {
+    ghost output = { λ refusal. Some (words_of refusal) };
+
+    fn fmt<W: fmt::Write>(&self, f: &mut fmt::Formatter<W>) -> fmt::Result {
+        match self {
+            RunRefusal::Journal => write!(
+                f,
+                "the journal is over 65536 bytes, or does not begin with its line of names"
+            ),
+            RunRefusal::Line(refusal) => write!(f, "{refusal}"),
+            RunRefusal::Book(refusal) => write!(f, "{refusal}"),
+            RunRefusal::Room => write!(f, "the output has under 4096 bytes left"),
+        }
+    }
+}
+
+impl Error for RunRefusal {}
+
 /// Where and why a run stops.
 #[derive(Clone, Copy, PartialEq, Eq, Debug)]
 pub struct RunFault {
@@ -91,6 +119,26 @@ impl RunFault {
         }
     }
 }
+
+impl fmt::Display for RunFault {
+    ghost output = { λ fault. Some (fault_told fault) };
+
+    fn fmt<W: fmt::Write>(&self, f: &mut fmt::Formatter<W>) -> fmt::Result {
+        let RunFault {
+            line,
+            field,
+            refusal,
+            ..
+        } = *self;
+        let number = refusal.number();
+        match field {
+            None => write!(f, "line {line}: {refusal} ({number})"),
+            Some(field) => write!(f, "line {line}, field {field}: {refusal} ({number})"),
+        }
+    }
+}
+
+impl Error for RunFault {}
 
 // Each by hand: a derive would not state the fault that `?` makes.
 impl From<LineFault> for RunFault {

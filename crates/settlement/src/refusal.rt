@@ -1,6 +1,9 @@
 //! Why a line of the output is not written.
-ghost use Rattle.std.specs.Prelude.{◌≡◌};
-ghost use Rattle.settlement.specs.Output.{output_number};
+ghost use Rattle.std.specs.Prelude.{◌≡◌, Some};
+ghost use Rattle.settlement.specs.Output.{output_number, output_words};
+
+use std::error::Error;
+use std::fmt;
 
 /// The refusal of a writer of a line of the output.
 #[derive(Clone, Copy, PartialEq, Eq, Debug)]
@@ -20,3 +23,16 @@ impl OutputRefusal {
         }
     }
 }
+
+// By hand: a derive of the kit states no words, and these are proved.
+impl fmt::Display for OutputRefusal {
+    ghost output = { λ refusal. Some (output_words refusal) };
+
+    fn fmt<W: fmt::Write>(&self, f: &mut fmt::Formatter<W>) -> fmt::Result {
+        match self {
+            OutputRefusal::Room => write!(f, "the slice has less room than the line is given"),
+        }
+    }
+}
+
+impl Error for OutputRefusal {}

@@ -32,7 +32,8 @@ pub fn run<R: SharingRule, T: Tariff>(
     journal: &[u8],
     out: &mut [u8],
 ) -> Outcome
-    ensures outcome { JournalDone (R.SharingRule.sharing book.old.rule) (T.Tariff.price book.old.tariff)
+    ensures outcome { JournalDone
+        (R.SharingRule.sharing book.old.rule) (T.Tariff.price book.old.tariff)
         journal.now (out.old, book.old.group) result (out.new, book.new.group) }
     ensures terms { SameTerms book.old book.new }
     ensures balance { LeadsOnBalanced R.SharingRule.sharing T.Tariff.price

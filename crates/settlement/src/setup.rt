@@ -11,7 +11,7 @@ use sharing::rule::SharingRule;
 use tariff::tariff::Tariff;
 
 /// A group as its book opens, with the rule and the tariff that settle it.
-#[derive(Drop)]
+#[derive(Drop, Debug)]
 pub struct Setup<'a, R, T> {
     /// The number of the group.
     pub number: u32,
@@ -44,7 +44,8 @@ pub fn settle<R: SharingRule + Drop, T: Tariff + Drop>(
     journal: &[u8],
     out: &mut [u8],
 ) -> Result<Outcome, BookRefusal>
-    ensures { JournalSettled R.SharingRule.sharing T.Tariff.price setup.entry journal.now out.old result out.new }
+    ensures { JournalSettled R.SharingRule.sharing T.Tariff.price
+        setup.entry journal.now out.old result out.new }
 {
     let mut book = setup.open()?;
     Ok(run(&mut book, journal, out))

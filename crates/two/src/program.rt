@@ -28,7 +28,8 @@ pub fn write_printed(
     output: &mut [u8; OUTPUT],
     line: &mut [u8; FAULT_ROOM],
 ) -> Lengths
-    ensures slices { PrintsJournal journal.now (output.old, line.old) result (output.new, line.new) }
+    ensures slices { PrintsJournal journal.now
+        (output.old, line.old) result (output.new, line.new) }
     ensures printed { Printed journal.now
         (take result.output output.new ++ take result.fault line.new) }
     ensures output { result.output ≤ 65536 }
