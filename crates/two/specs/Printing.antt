@@ -33,3 +33,4 @@ pub record PrintsJournal (journal : List ℕ) (old : List ℕ × List ℕ) (leng
   pub run : OutputWritten journal text fault
   pub output : Put old.0 0 text new.0 lengths.output
   pub line : Put old.1 0 (fault_text fault) new.1 lengths.fault
+  pub stops : lengths.stopped_at ≡ fault

@@ -13,13 +13,15 @@ use std::io::{Read, Write};
 /// The room for the output, in bytes.
 pub const OUTPUT: usize = 65_536;
 
-/// How much of its two slices the program prints for a journal.
+/// How much of its two slices the program prints for a journal, and the fault that it tells in words besides.
 #[derive(Clone, Copy, PartialEq, Eq, Debug)]
 pub struct Lengths {
     /// The bytes of the output.
     pub output: usize,
     /// The bytes of the line of the fault, or 0 where there is none.
     pub fault: usize,
+    /// The fault that the run stopped at, or none.
+    pub stopped_at: Option<RunFault>,
 }
 
 /// Writes what the program prints for a journal: the output at the start of one slice, and the line of the fault, if there is one, at that of another.
@@ -39,6 +41,7 @@ pub fn write_printed(
     Lengths {
         output: outcome.written,
         fault: write_line(outcome.fault, line),
+        stopped_at: outcome.fault,
     }
 }
 
@@ -56,7 +59,7 @@ fn write_line(fault: Option<RunFault>, line: &mut [u8; FAULT_ROOM]) -> usize
     end
 }
 
-/// Prints what the journal on standard input comes to.
+/// Prints what the journal on standard input comes to, and besides, on standard error, the fault that it stops at in words.
 pub fn settle_input(rt: HostRuntime) -> io::Result<()> {
     let mut journal = Vec::new(rt.alloc());
     // One byte past the limit tells that a journal is too long, so no more is kept.
@@ -67,5 +70,9 @@ pub fn settle_input(rt: HostRuntime) -> io::Result<()> {
     let lengths = write_printed(&journal, &mut output, &mut line);
     let mut stdout = rt.stdout();
     stdout.write_all(&output[..lengths.output])?;
-    stdout.write_all(&line[..lengths.fault])
+    stdout.write_all(&line[..lengths.fault])?;
+    match lengths.stopped_at {
+        Some(fault) => eprintln!(rt; "{fault}"),
+        None => Ok(()),
+    }
 }
