@@ -23,8 +23,8 @@ too_short room needed refusal is = grind (arith, nat_tests)
 pub of_room : (room needed : ℕ) (refusal : RunRefusal) → room_checked room needed ≡ Err refusal → refusal ≡ refused.Room
 of_room room needed refusal is = grind (arith, nat_tests)
 
--- a fault is at the line that it is told
-pub told_at : (line : ℕ) (fault : RunFault) → fault ≡ fault_at fault.line fault.refusal → (let told : RunFault = record fault { line = line } in told) ≡ fault_at line fault.refusal
+-- a fault of no line yet is at the line that it is told
+pub told_at : (line : ℕ) (fault : RunFault) → fault ≡ fault_at 0 fault.refusal → (let told : RunFault = record fault { line = line } in told) ≡ fault_at line fault.refusal
 told_at line fault is = ap (λ (f : RunFault). let told : RunFault = record f { line = line } in told) is
 
 -- the output is too short

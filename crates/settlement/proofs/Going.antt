@@ -8,7 +8,6 @@ use Rattle.journal.specs.Lines.{LineRead}
 use Rattle.journal.specs.declared.line.Line.{Line}
 use Rattle.journal.specs.declared.refusal.LineFault.{LineFault}
 use Rattle.group.specs.Months.{Prices, Share}
-use Rattle.settlement.proofs.Beginning.{told_at}
 use Rattle.settlement.proofs.Billing.{put_none}
 use Rattle.settlement.specs.Runs.{BodyDone, GoesOn, LinesRun, Ran, after_text, ended, stopped}
 use Rattle.settlement.specs.Steps.{TextDone, after_reading}
@@ -59,10 +58,10 @@ module _ (share : Share) (prices : ℕ → Prices) (body : List ℕ) (at : ℕ) 
       (subst (λ r. LinesRun share prices (length out - written) (number + 1) (text_lines r) group (ended group)) (sym none) refl)
 
   -- the next line is refused
-  pub going_stops : (line after : List ℕ) (fault : RunFault) (new_out : List ℕ) (new : Group) → text_lines rest ≡ line ∷ text_lines after → TextDone share prices line (number + 1) written (out, group) (Err fault) (new_out, new) → BodyDone share prices body at (old, start) (record { written = written; fault = Some (record fault { line = number + 1 }) }) (new_out, new)
+  pub going_stops : (line after : List ℕ) (fault : RunFault) (new_out : List ℕ) (new : Group) → text_lines rest ≡ line ∷ text_lines after → TextDone share prices line (number + 1) written (out, group) (Err fault) (new_out, new) → BodyDone share prices body at (old, start) (record { written = written; fault = Some fault }) (new_out, new)
   going_stops line after fault new_out new lines (reading, read, ((refuses, is), same)) =
-      subst (λ (pair : List ℕ × Group). BodyDone share prices body at (old, start) (record { written = written; fault = Some (record fault { line = number + 1 }) }) pair) (sym same)
-      (subst (λ (f : RunFault). BodyDone share prices body at (old, start) (record { written = written; fault = Some f }) (out, group)) (sym (told_at (number + 1) fault is))
+      subst (λ (pair : List ℕ × Group). BodyDone share prices body at (old, start) (record { written = written; fault = Some fault }) pair) (sym same)
+      (subst (λ (f : RunFault). BodyDone share prices body at (old, start) (record { written = written; fault = Some f }) (out, group)) (sym is)
       (goes_to (stopped (number + 1) fault.refusal group) refl
       (run_next line after reading (Err fault.refusal) (stopped (number + 1) fault.refusal group) lines read refuses refl)))
 

@@ -48,9 +48,9 @@ refused_as refusal_of (Err e) = Err (refusal_of e)
 abbrev pub room_checked : (room needed : ℕ) → Result (Unit {0}) RunRefusal
 room_checked room needed = if nat_lt room needed then Err refused.Room else Ok tt
 
--- a fault, whatever its line, is that of why a step is refused
+-- a fault, of no line yet, is that of why a step is refused
 abbrev pub RefusedBy : {A : Type 0} → Result A RunRefusal → RunFault → Type 0
-RefusedBy step fault = (step ≡ Err fault.refusal) × (fault ≡ fault_at fault.line fault.refusal)
+RefusedBy step fault = (step ≡ Err fault.refusal) × (fault ≡ fault_at 0 fault.refusal)
 
 -- what is answered on the room of the output
 abbrev pub RoomChecked : (room : ℕ) → Result (Unit {0}) RunFault → Type 0
@@ -79,8 +79,14 @@ abbrev pub LineDone : Share → (ℕ → Prices) → Line → (at : ℕ) → (ol
 LineDone share prices line at old answer new =
     StepDone (after_line share prices (length old.0 - at) line old.1) at old answer new
 
+-- a step is done; or the fault is told at the line with this number
+abbrev ToldDone : (number : ℕ) → Result (List ℕ × Group) RunRefusal → (at : ℕ) → (old : List ℕ × Group) → Result ℕ RunFault → (new : List ℕ × Group) → Type 0
+ToldDone number step at old (Ok end) new = StepDone step at old (Ok end) new
+ToldDone number step at old (Err fault) new =
+    ((step ≡ Err fault.refusal) × (fault ≡ fault_at number fault.refusal)) × (new ≡ old)
+
 -- what is read of the text of the line with this number is done
 abbrev pub TextDone : Share → (ℕ → Prices) → (text : List ℕ) → (number : ℕ) → (at : ℕ) → (old : List ℕ × Group) → Result ℕ RunFault → (new : List ℕ × Group) → Type 0
 TextDone share prices text number at old answer new =
     (reading : Result Line LineFault) × LineRead text number reading
-    × StepDone (after_reading share prices (length old.0 - at) reading old.1) at old answer new
+    × ToldDone number (after_reading share prices (length old.0 - at) reading old.1) at old answer new

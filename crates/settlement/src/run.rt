@@ -99,10 +99,7 @@ fn run_body<R: SharingRule, T: Tariff>(
         match run_line(book, line, number, out, written) {
             Ok(end) => written = end,
             Err(fault) => {
-                let fault = Some(RunFault {
-                    line: number,
-                    ..fault
-                });
+                let fault = Some(fault);
                 return Outcome { written, fault };
             }
         }

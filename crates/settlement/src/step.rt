@@ -125,5 +125,11 @@ pub(crate) fn run_line<R: SharingRule, T: Tariff>(
     ensures inside { IfOk result (λ end. end ≤ length out.new) }
 {
     let line = read_line(text, number)?;
-    carry_out(book, line, out, at)
+    match carry_out(book, line, out, at) {
+        Ok(end) => Ok(end),
+        Err(fault) => Err(RunFault {
+            line: number,
+            ..fault
+        }),
+    }
 }
