@@ -1,7 +1,7 @@
--- What a bill does to the record of a member, and what its line charges.
+-- What a bill does to the record of a member, and what its bill charges.
 use Rattle.std.proofs.Common.{◌≡◌, ℕ, ℤ, pos, negsuc, ◌+ℤ◌, refl, arith}
 use Rattle.std.proofs.lemmas.Int.{ints}
-use Rattle.billing.specs.Accounts.{owing, worth}
+use Rattle.billing.specs.Accounts.{sum_owed, worth}
 use Rattle.billing.specs.Costs.{month_cost}
 use Rattle.billing.specs.declared.account.Account.{Account}
 use Rattle.billing.specs.declared.supply.Supply.{Supply}
@@ -14,7 +14,7 @@ use Rattle.ledger.specs.declared.zone.Zone.{Zone}
 use Rattle.ledger.specs.declared.zone.Zone.TheVariants.{Day, Night}
 use Rattle.group.specs.Members.{register_at}
 use Rattle.group.specs.declared.member.Member.{Member}
-use Rattle.group.specs.Months.{Prices, bill_of, billed_member, posted}
+use Rattle.group.specs.Months.{Prices, bill_of, billed_member, posted_account}
 use Rattle.balance.proofs.Slots.{slot, tally_in}
 use Rattle.balance.specs.Postings.{charge}
 
@@ -41,25 +41,25 @@ pub billed_class : (price : Prices) (member : Member) (supplies : ByZone Supply)
 unfolding billed_member
 billed_class price member supplies = refl
 
-worth_moves : (account : Account) (amount z : ℤ) → owing account amount ≡ z → worth (posted account amount) ≡ worth account +ℤ amount
+worth_moves : (account : Account) (amount z : ℤ) → sum_owed account amount ≡ z → worth (posted_account account amount) ≡ worth account +ℤ amount
 worth_moves account amount (pos n) is = rw is (omega (arith, ints, is))
 worth_moves account amount (negsuc n) is = rw is (omega (arith, ints, is))
 
 -- an amount in hundredths of a dram moves the account by just that
-pub posted_worth : (account : Account) (amount : ℤ) → worth (posted account amount) ≡ worth account +ℤ amount
-posted_worth account amount = worth_moves account amount (owing account amount) refl
+pub posted_worth : (account : Account) (amount : ℤ) → worth (posted_account account amount) ≡ worth account +ℤ amount
+posted_worth account amount = worth_moves account amount (sum_owed account amount) refl
 
 -- and the account moves by what the month costs
 pub billed_worth : (price : Prices) (member : Member) (supplies : ByZone Supply) → worth (billed_member price member supplies).account ≡ worth member.account +ℤ pos (month_cost (λ service. price service member.class) supplies)
 unfolding billed_member
 billed_worth price member supplies = posted_worth member.account (pos (month_cost (λ service. price service member.class) supplies))
 
--- which is what the line charges
+-- which is what the bill charges
 pub line_charges : (price : Prices) (member : Member) (supplies : ByZone Supply) → charge (λ service. price service member.class) (bill_of price member supplies) ≡ month_cost (λ service. price service member.class) supplies
 unfolding bill_of
 line_charges price member supplies = refl
 
--- the line has what the member is billed
+-- the bill has what the member is billed
 pub line_billed : (zone : Zone) (price : Prices) (member : Member) (day night : Supply) → in_zone (bill_of price member (record { day = day; night = night })).billed zone ≡ (in_zone (record { day = day; night = night }) zone).billed
 unfolding bill_of
 line_billed Day price member day night = refl

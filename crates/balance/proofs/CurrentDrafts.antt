@@ -5,21 +5,21 @@ use Rattle.ledger.specs.declared.bill.Bill.{Bill}
 use Rattle.ledger.specs.declared.bill.YearEnd.{YearEnd}
 use Rattle.ledger.specs.declared.entry.Entry.{Entry}
 use Rattle.group.proofs.Stepping.{and_then_ok, made_ok}
-use Rattle.group.specs.Groups.{altered, opened}
+use Rattle.group.specs.Groups.{entry_result, opening_group}
 use Rattle.group.specs.declared.group.Group.{Group}
 use Rattle.group.specs.declared.group.Phase.{Phase}
 use Rattle.group.specs.declared.group.Phase.TheVariants.{Blank, Open, YearEnd as AtYearEnd, Over}
 use Rattle.group.specs.declared.refusal.BookRefusal.TheVariants as refused
-use Rattle.group.specs.Books.{unopened}
-use Rattle.group.specs.Drafts.{Stamp, drawable, drawn, is_current, issued, next_phase, stamped}
-use Rattle.group.specs.Entries.{after_entry, open_month, place_of, recorded}
-use Rattle.group.specs.Months.{Prices, Share, lines_of}
+use Rattle.group.specs.Books.{opening_phase}
+use Rattle.group.specs.Drafts.{Stamp, drawing_month, drawing_result, is_current, issue_result, next_phase, stamp_of}
+use Rattle.group.specs.Entries.{after_entry, open_month, place_of, recorded_member}
+use Rattle.group.specs.Months.{Prices, Share, bills_of}
 use Rattle.group.specs.Years.{after_year, next_year, open_year, year_figures}
 use Rattle.balance.proofs.Entries.{altered_found}
 use Rattle.balance.proofs.Theorem.{ended_in, issued_is, opened_in}
 use Rattle.balance.specs.CurrentDrafts.{DraftsByCall, DraftsByHistory}
 use Rattle.balance.specs.Histories.{Event, Opening, Entering, Drawing, Checking, Issuing, Withdrawing, Closing, Happens, Leads}
-use Rattle.balance.specs.Postings.{posting, postings}
+use Rattle.balance.specs.Postings.{accepted_call, accepted_calls}
 
 -- the group has gone past the month, or past the number of entries, of a draft
 abbrev Past : Stamp → Phase → (entries : ℕ) → Type 0
@@ -59,14 +59,14 @@ current_month Over group stamp is = absurd cc
 -- what an accepted entry makes of the phase and the entries
 entry_moves : (entry : Entry) (old new : Group) → after_entry entry old ≡ Ok new → (new.phase ≡ old.phase) × (new.entries ≡ old.entries + 1)
 entry_moves entry old new is =
-    let (month, opens, rest) = and_then_ok (open_month old.phase) (λ (m : ℕ). altered (place_of entry) (recorded m entry) old) new is in
-    let (member, changed, found, stepped, same) = altered_found (place_of entry) (recorded month entry) old new rest in
+    let (month, opens, rest) = and_then_ok (open_month old.phase) (λ (m : ℕ). entry_result (place_of entry) (recorded_member m entry) old) new is in
+    let (member, changed, found, stepped, same) = altered_found (place_of entry) (recorded_member month entry) old new rest in
     (ap (λ (g : Group). g.phase) (sym same), ap (λ (g : Group). g.entries) (sym same))
 
 -- and an accepted issue
-issue_moves : (share : Share) (prices : ℕ → Prices) (stamp : Stamp) (places : ℕ) (old new : Group) (lines : List Bill) → issued share prices stamp places old ≡ Ok (lines, new) → (month : ℕ) × (old.phase ≡ Open month) × (new.phase ≡ next_phase month)
-issue_moves share prices stamp places old new lines is =
-    let (month, opens, writes, becomes) = issued_is share prices stamp places old new lines is in
+issue_moves : (share : Share) (prices : ℕ → Prices) (stamp : Stamp) (places : ℕ) (old new : Group) (bills : List Bill) → issue_result share prices stamp places old ≡ Ok (bills, new) → (month : ℕ) × (old.phase ≡ Open month) × (new.phase ≡ next_phase month)
+issue_moves share prices stamp places old new bills is =
+    let (month, opens, writes, becomes) = issued_is share prices stamp places old new bills is in
     (month, opens, ap (λ (g : Group). g.phase) (sym becomes))
 
 -- the phase after a month is past its drafts
@@ -89,9 +89,9 @@ entry_past entry old new stamp is past =
     subst (λ p. Past stamp p new.entries) (sym phase) (subst (λ n. Past stamp old.phase n) (sym entries) past)
 
 -- and an accepted issue
-issue_past : (share : Share) (prices : ℕ → Prices) (issue : Stamp) (places : ℕ) (old new : Group) (lines : List Bill) (stamp : Stamp) → issued share prices issue places old ≡ Ok (lines, new) → ((month : ℕ) → old.phase ≡ Open month → stamp.month ≤ month) → Past stamp new.phase new.entries
-issue_past share prices issue places old new lines stamp is within =
-    let (month, opens, becomes) = issue_moves share prices issue places old new lines is in
+issue_past : (share : Share) (prices : ℕ → Prices) (issue : Stamp) (places : ℕ) (old new : Group) (bills : List Bill) (stamp : Stamp) → issue_result share prices issue places old ≡ Ok (bills, new) → ((month : ℕ) → old.phase ≡ Open month → stamp.month ≤ month) → Past stamp new.phase new.entries
+issue_past share prices issue places old new bills stamp is within =
+    let (month, opens, becomes) = issue_moves share prices issue places old new bills is in
     subst (λ p. Past stamp p new.entries) (sym becomes) (past_issue stamp month new.entries (within month opens))
 
 -- a draft that is current is of the open month
@@ -117,22 +117,22 @@ past_end (Open m) entries stamp past december ends = absurd cc
 past_end (AtYearEnd d) entries stamp past december ends = let e : d ≡ december = cc in omega (arith, past, e)
 past_end Over entries stamp past december ends = absurd cc
 
-stamped_current : (phase : Phase) (month : ℕ) (group : Group) → phase ≡ Open month → is_current (in_phase phase group) (stamped month group) ≡ true
+stamped_current : (phase : Phase) (month : ℕ) (group : Group) → phase ≡ Open month → is_current (in_phase phase group) (stamp_of month group) ≡ true
 stamped_current Blank month group is = absurd cc
 stamped_current (Open m) month group is = let e : m ≡ month = cc in grind (arith, nat_tests)
 stamped_current (AtYearEnd december) month group is = absurd cc
 stamped_current Over month group is = absurd cc
 
-drawn_now : (share : Share) (prices : ℕ → Prices) (places : ℕ) (group : Group) (stamp : Stamp) (lines : List Bill) → drawn share prices places group ≡ Ok (stamp, lines) → is_current group stamp ≡ true
-drawn_now share prices places group stamp lines is =
-    let (month, draws, same) = made_ok (λ (m : ℕ). (stamped m group, lines_of share (prices m) group)) (drawable places group) (stamp, lines) is in
-    let (m, opens, fits) = and_then_ok (open_month group.phase) (λ (n : ℕ). if nat_lt places (length group.members.items) then Err refused.Lines else Ok n) month draws in
+drawn_now : (share : Share) (prices : ℕ → Prices) (places : ℕ) (group : Group) (stamp : Stamp) (bills : List Bill) → drawing_result share prices places group ≡ Ok (stamp, bills) → is_current group stamp ≡ true
+drawn_now share prices places group stamp bills is =
+    let (month, draws, same) = made_ok (λ (m : ℕ). (stamp_of m group, bills_of share (prices m) group)) (drawing_month places group) (stamp, bills) is in
+    let (m, opens, fits) = and_then_ok (open_month group.phase) (λ (n : ℕ). if nat_lt places (length group.members.items) then Err refused.Bills else Ok n) month draws in
     let e : m ≡ month = grind (arith, nat_tests) in
     let phase : group.phase ≡ Open month = opened_in group.phase m opens ∙ ap Open e in
-    let stamped_is : stamped month group ≡ stamp = ap (λ (p : Stamp × List Bill). p.0) same in
+    let stamped_is : stamp_of month group ≡ stamp = ap (λ (p : Stamp × List Bill). p.0) same in
     subst (λ s. is_current group s ≡ true) stamped_is (stamped_current group.phase month group phase)
 
-unopened_blank : (phase : Phase) (done : Unit {0}) → unopened phase ≡ Ok done → phase ≡ Blank
+unopened_blank : (phase : Phase) (done : Unit {0}) → opening_phase phase ≡ Ok done → phase ≡ Blank
 unopened_blank Blank done is = refl
 unopened_blank (Open m) done is = absurd cc
 unopened_blank (AtYearEnd d) done is = absurd cc
@@ -176,19 +176,19 @@ since_end group stamp since december ends =
 -- a call posts nothing and leaves the group, or it goes past each draft that was current before
 abbrev QuietOrPast : Event → (old new : Group) → Type 0
 QuietOrPast event old new =
-    ((posting event ≡ []) × (new ≡ old))
-    ⊎ ((posting event ≢ []) × ((stamp : Stamp) → Since stamp old → Past stamp new.phase new.entries))
+    ((accepted_call event ≡ []) × (new ≡ old))
+    ⊎ ((accepted_call event ≢ []) × ((stamp : Stamp) → Since stamp old → Past stamp new.phase new.entries))
 
 after_call : (share : Share) (prices : ℕ → Prices) (old : Group) (event : Event) (new : Group) → Happens share prices old event new → QuietOrPast event old new
 after_call share prices old (Opening number start holder records (Ok done)) new happens =
-    let (fresh, is, opens) = and_then_ok (unopened old.phase) (λ (d : Unit {0}). opened number start holder records) new happens in
+    let (fresh, is, opens) = and_then_ok (opening_phase old.phase) (λ (d : Unit {0}). opening_group number start holder records) new happens in
     inr (λ none. absurd cc, λ stamp since. absurd (none_of_blank old stamp (unopened_blank old.phase fresh is) since))
 after_call share prices old (Opening number start holder records (Err refusal)) new happens = inl (refl, happens.1)
 after_call share prices old (Entering entry (Ok done)) new happens = inr (λ none. absurd cc, λ stamp since. entry_past entry old new stamp happens (since_entry old stamp since))
 after_call share prices old (Entering entry (Err refusal)) new happens = inl (refl, happens.1)
 after_call share prices old (Drawing places answer) new happens = inl (refl, happens.1)
 after_call share prices old (Checking stamp current) new happens = inl (refl, happens.1)
-after_call share prices old (Issuing issue places (Ok lines)) new happens = inr (λ none. absurd cc, λ stamp since. issue_past share prices issue places old new lines stamp happens (since_within old stamp since))
+after_call share prices old (Issuing issue places (Ok bills)) new happens = inr (λ none. absurd cc, λ stamp since. issue_past share prices issue places old new bills stamp happens (since_within old stamp since))
 after_call share prices old (Issuing issue places (Err refusal)) new happens = inl (refl, happens.1)
 after_call share prices old (Withdrawing stamp) new happens = inl (refl, happens)
 after_call share prices old (Closing (Ok figures)) new happens =
@@ -202,24 +202,24 @@ both_empty [] ys is = (refl, is)
 both_empty (x ∷ xs) ys is = absurd cc
 
 -- a draft is current and nothing was posted after its drawing, or something was and it is gone past
-since_drawn : (share : Share) (prices : ℕ → Prices) (earlier later : List Event) (places : ℕ) (stamp : Stamp) (lines : List Bill) (group : Group) → Leads share prices (later ++ Drawing places (Ok (stamp, lines)) ∷ earlier) group
-    → ((postings later ≡ []) × (is_current group stamp ≡ true)) ⊎ ((postings later ≢ []) × Past stamp group.phase group.entries)
-since_drawn share prices earlier [] places stamp lines group (before, leads, happens) =
-    inl (refl, subst (λ g. is_current g stamp ≡ true) (sym happens.1) (drawn_now share prices places before stamp lines happens.0))
-since_drawn share prices earlier (event ∷ later) places stamp lines group (before, leads, happens) =
-    let was = since_drawn share prices earlier later places stamp lines before leads in
+since_drawn : (share : Share) (prices : ℕ → Prices) (earlier later : List Event) (places : ℕ) (stamp : Stamp) (bills : List Bill) (group : Group) → Leads share prices (later ++ Drawing places (Ok (stamp, bills)) ∷ earlier) group
+    → ((accepted_calls later ≡ []) × (is_current group stamp ≡ true)) ⊎ ((accepted_calls later ≢ []) × Past stamp group.phase group.entries)
+since_drawn share prices earlier [] places stamp bills group (before, leads, happens) =
+    inl (refl, subst (λ g. is_current g stamp ≡ true) (sym happens.1) (drawn_now share prices places before stamp bills happens.0))
+since_drawn share prices earlier (event ∷ later) places stamp bills group (before, leads, happens) =
+    let was = since_drawn share prices earlier later places stamp bills before leads in
     let now = after_call share prices before event group happens in
-    let posts = both_empty (posting event) (postings later) in
+    let posts = both_empty (accepted_call event) (accepted_calls later) in
     ⊎_elim
-    (λ (fresh : (postings later ≡ []) × (is_current before stamp ≡ true)).
+    (λ (fresh : (accepted_calls later ≡ []) × (is_current before stamp ≡ true)).
     ⊎_elim
-    (λ (quiet : (posting event ≡ []) × (group ≡ before)).
-    inl (ap (λ l. l ++ postings later) quiet.0 ∙ fresh.0, subst (λ g. is_current g stamp ≡ true) (sym quiet.1) fresh.1))
+    (λ (quiet : (accepted_call event ≡ []) × (group ≡ before)).
+    inl (ap (λ l. l ++ accepted_calls later) quiet.0 ∙ fresh.0, subst (λ g. is_current g stamp ≡ true) (sym quiet.1) fresh.1))
     (λ loud. inr (λ none. loud.0 (posts none).0, loud.1 stamp (inl fresh.1)))
     now)
-    (λ (gone : (postings later ≢ []) × Past stamp before.phase before.entries).
+    (λ (gone : (accepted_calls later ≢ []) × Past stamp before.phase before.entries).
     ⊎_elim
-    (λ (quiet : (posting event ≡ []) × (group ≡ before)).
+    (λ (quiet : (accepted_call event ≡ []) × (group ≡ before)).
     inr (λ none. gone.0 (posts none).1, subst (λ (g : Group). Past stamp g.phase g.entries) (sym quiet.1) gone.1))
     (λ loud. inr (λ none. gone.0 (posts none).1, loud.1 stamp (inr gone.1)))
     now)
@@ -229,8 +229,8 @@ stale_is : (group : Group) (stamp : Stamp) → Past stamp group.phase group.entr
 stale_is group stamp past = past_stale group.phase group stamp past
 
 pub drafts_by_history : DraftsByHistory
-drafts_by_history share prices earlier later places stamp lines group leads =
-    let since = since_drawn share prices earlier later places stamp lines group leads in (
+drafts_by_history share prices earlier later places stamp bills group leads =
+    let since = since_drawn share prices earlier later places stamp bills group leads in (
       λ current. ⊎_elim (λ h. h.0) (λ h. let e : true ≡ false = sym current ∙ stale_is group stamp h.1 in absurd cc) since,
       λ none. ⊎_elim (λ h. h.1) (λ h. absurd (h.0 none)) since,
     )
@@ -247,14 +247,14 @@ none_of_another (Open month) group stamp other = grind (arith, nat_tests)
 none_of_another (AtYearEnd december) group stamp other = refl
 none_of_another Over group stamp other = refl
 
-quiet_leaves : (event : Event) (old new : Group) (stamp : Stamp) → posting event ≡ [] → QuietOrPast event old new → is_current new stamp ≡ is_current old stamp
+quiet_leaves : (event : Event) (old new : Group) (stamp : Stamp) → accepted_call event ≡ [] → QuietOrPast event old new → is_current new stamp ≡ is_current old stamp
 quiet_leaves event old new stamp none now = ⊎_elim (λ quiet. ap (λ g. is_current g stamp) quiet.1) (λ loud. absurd (loud.0 none)) now
 
 pub drafts_by_call : DraftsByCall
 drafts_by_call = record {
   drawn_now = drawn_now;
   by_entry = λ entry old new stamp is current. stale_is new stamp (entry_past entry old new stamp is (since_entry old stamp (inl current)));
-  by_issue = λ share prices issue places old new lines stamp is current. stale_is new stamp (issue_past share prices issue places old new lines stamp is (current_within old stamp current));
+  by_issue = λ share prices issue places old new bills stamp is current. stale_is new stamp (issue_past share prices issue places old new bills stamp is (current_within old stamp current));
   out_of_a_month = λ group stamp out. none_out group.phase group stamp out;
   of_another_group = λ group stamp other. none_of_another group.phase group stamp other;
   by_quiet_call = λ share prices old event new stamp happens none. quiet_leaves event old new stamp none (after_call share prices old event new happens);

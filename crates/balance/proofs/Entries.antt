@@ -13,11 +13,11 @@ use Rattle.ledger.specs.declared.zone.Flow.TheVariants.{Consumed, Delivered}
 use Rattle.ledger.specs.declared.zone.Zone.{Zone}
 use Rattle.ledger.specs.declared.zone.Zone.TheVariants.{Day, Night}
 use Rattle.group.proofs.Stepping.{and_then_ok, made_ok}
-use Rattle.group.specs.Groups.{altered, entered}
+use Rattle.group.specs.Groups.{entry_result, entry_group}
 use Rattle.group.specs.Members.{on_account, on_register, register_at, with_register}
-use Rattle.group.specs.Payments.{paid}
-use Rattle.group.specs.Registers.{corrected, quantity, read}
-use Rattle.group.specs.Results.{made}
+use Rattle.group.specs.Payments.{with_payment}
+use Rattle.group.specs.Registers.{with_correction, quantity, with_reading}
+use Rattle.group.specs.Results.{result_map}
 use Rattle.group.specs.declared.refusal.BookRefusal.{BookRefusal}
 use Rattle.group.specs.declared.group.Group.{Group}
 use Rattle.group.specs.declared.group.Phase.{Phase}
@@ -25,23 +25,23 @@ use Rattle.group.specs.declared.group.Phase.TheVariants.{Blank, Open, YearEnd, O
 use Rattle.group.specs.declared.member.Member.{Member}
 use Rattle.group.specs.declared.register.Register.{Register}
 use Rattle.group.proofs.EntriesSound.{altered_found as altered_as}
-use Rattle.group.specs.Entries.{place_of, recorded}
+use Rattle.group.specs.Entries.{place_of, recorded_member}
 use Rattle.group.specs.Months.{Prices}
 use Rattle.balance.proofs.Found.{found_after_set, sum_of-set}
 use Rattle.balance.proofs.Kept.{Kept, MonthKept}
 use Rattle.balance.proofs.Slots.{register_replaced, slot, tally_in, tally_replaced}
 use Rattle.balance.specs.Balances.{EnergyBalances}
-use Rattle.balance.specs.Postings.{Entered, Posting, class_at, counted_between, energy, energy_in, last_value, owed, same_flow, same_register, same_zone}
+use Rattle.balance.specs.Postings.{Entered, AcceptedCall, class_at, counted_between, energy_of, energy_part, last_value, amount_owed, same_flow, same_register, same_zone}
 
 -- in an open month an entry moves no month
-month_kept : (phase : Phase) (month : ℕ) (entry : Entry) (posted : List Posting) → phase ≡ Open month → MonthKept phase posted → MonthKept phase (Entered entry ∷ posted)
+month_kept : (phase : Phase) (month : ℕ) (entry : Entry) (posted : List AcceptedCall) → phase ≡ Open month → MonthKept phase posted → MonthKept phase (Entered entry ∷ posted)
 month_kept Blank month entry posted is kept = absurd cc
 month_kept (Open m) month entry posted is kept = kept
 month_kept (YearEnd d) month entry posted is kept = absurd cc
 month_kept Over month entry posted is kept = absurd cc
 
 -- an entry moves the deliveries of all and those of the open month alike
-energy_kept : (zone : Zone) (entry : Entry) (posted : List Posting) (place : ℕ) (member : Member) (group : Group) → EnergyBalances zone posted group → EnergyBalances zone (Entered entry ∷ posted) (entered place member group)
+energy_kept : (zone : Zone) (entry : Entry) (posted : List AcceptedCall) (place : ℕ) (member : Member) (group : Group) → EnergyBalances zone posted group → EnergyBalances zone (Entered entry ∷ posted) (entry_group place member group)
 energy_kept zone entry posted place member group kept = omega (arith, ints, kept)
 
 -- which value is seen of the register that an entry is for, and of another of its member
@@ -62,15 +62,15 @@ other_place : (a b : ℕ) → a ≢ b → (a == b) ≡ false
 other_place a b is = grind (arith, nat_tests)
 
 -- an entry that moves one register
-pub register_entered : (prices : ℕ → Prices) (posted : List Posting) (group : Group) (entry : Entry) (month : ℕ) (of : MemberRegister) (kwh : ℤ) (member : Member) (register : Register)
+pub register_entered : (prices : ℕ → Prices) (posted : List AcceptedCall) (group : Group) (entry : Entry) (month : ℕ) (of : MemberRegister) (kwh : ℤ) (member : Member) (register : Register)
     → Kept prices posted group
     → group.phase ≡ Open month
     → slice_get group.members.items of.place ≡ Some member
     → register.tally ≡ (register_at of member).tally +ℤ kwh
-    → energy posted entry ≡ Some (of, kwh)
+    → energy_of posted entry ≡ Some (of, kwh)
     → ((at : MemberRegister) → last_value (Entered entry ∷ posted) at ≡ (if same_register of at then register.standing else last_value posted at))
-    → ((place : ℕ) → owed prices place (Entered entry ∷ posted) ≡ owed prices place posted)
-    → Kept prices (Entered entry ∷ posted) (entered of.place (with_register of register member) group)
+    → ((place : ℕ) → amount_owed prices place (Entered entry ∷ posted) ≡ amount_owed prices place posted)
+    → Kept prices (Entered entry ∷ posted) (entry_group of.place (with_register of register member) group)
 register_entered prices posted group entry month of kwh member register kept opened found tally is stands owes =
     let changed = with_register of register member in
     let members = group.members.items in
@@ -87,11 +87,11 @@ register_entered prices posted group entry month of kwh member register kept ope
       tallies = λ zone flow.
           let one = sum_of-set (tally_in zone flow) members of.place member changed found in
           let moved = tally_replaced of zone flow register kwh member tally in
-          let told = ap (energy_in zone flow) is in
+          let told = ap (energy_part zone flow) is in
           omega (arith, ints, one, moved, told, kept.tallies zone flow);
       energy = λ zone. energy_kept zone entry posted of.place changed group (kept.energy zone);
       money = λ place m there. ⊎_elim
-          (λ h. ap (λ (x : Member). worth x.account) h.1 ∙ (kept.money of.place member found ∙ (sym (owes of.place) ∙ ap (λ p. owed prices p (Entered entry ∷ posted)) (sym h.0))))
+          (λ h. ap (λ (x : Member). worth x.account) h.1 ∙ (kept.money of.place member found ∙ (sym (owes of.place) ∙ ap (λ p. amount_owed prices p (Entered entry ∷ posted)) (sym h.0))))
           (λ h. kept.money place m h.1 ∙ sym (owes place))
           (found_after_set members of.place changed place m there);
       classes = λ place m there. ⊎_elim
@@ -108,26 +108,26 @@ unfolding quantity
 quantity_counts standing value kwh is = grind (arith, ints, nat_tests)
 
 -- a reading adds its quantity
-read_adds : (month day value next : ℕ) (r after : Register) → read month day value next r ≡ Ok after → (kwh : ℕ) × (quantity r.standing value ≡ Some kwh) × (after.tally ≡ r.tally +ℤ pos kwh)
+read_adds : (month day value next : ℕ) (r after : Register) → with_reading month day value next r ≡ Ok after → (kwh : ℕ) × (quantity r.standing value ≡ Some kwh) × (after.tally ≡ r.tally +ℤ pos kwh)
 read_adds month day value next r after is = grind (arith, nat_tests, common_steps)
 
 -- so it adds what the meter counts
-read_counts : (month day value next : ℕ) (r after : Register) → read month day value next r ≡ Ok after → after.tally ≡ r.tally +ℤ counted_between r.standing value
+read_counts : (month day value next : ℕ) (r after : Register) → with_reading month day value next r ≡ Ok after → after.tally ≡ r.tally +ℤ counted_between r.standing value
 read_counts month day value next r after is =
     let (kwh, is_quantity, adds) = read_adds month day value next r after is in
     adds ∙ ap (λ n. r.tally +ℤ n) (quantity_counts r.standing value kwh is_quantity)
 
-read_stands : (month day value next : ℕ) (r after : Register) → read month day value next r ≡ Ok after → after.standing ≡ next
+read_stands : (month day value next : ℕ) (r after : Register) → with_reading month day value next r ≡ Ok after → after.standing ≡ next
 read_stands month day value next r after is = grind (arith, nat_tests, common_steps)
 
-corrected_counts : (kwh : ℤ) (r after : Register) → corrected kwh r ≡ Ok after → after.tally ≡ r.tally +ℤ kwh
+corrected_counts : (kwh : ℤ) (r after : Register) → with_correction kwh r ≡ Ok after → after.tally ≡ r.tally +ℤ kwh
 corrected_counts kwh r after is = grind (arith, nat_tests, common_steps)
 
-corrected_stands : (kwh : ℤ) (r after : Register) → corrected kwh r ≡ Ok after → after.standing ≡ r.standing
+corrected_stands : (kwh : ℤ) (r after : Register) → with_correction kwh r ≡ Ok after → after.standing ≡ r.standing
 corrected_stands kwh r after is = grind (arith, nat_tests, common_steps)
 
 -- where an entry does a step on a record, the record is found, and the group has what the step makes of it
-pub altered_found : (place : ℕ) (step : Member → Result Member BookRefusal) (old new : Group) → altered place step old ≡ Ok new → (member : Member) × (changed : Member) × (slice_get old.members.items place ≡ Some member) × (step member ≡ Ok changed) × (entered place changed old ≡ new)
+pub altered_found : (place : ℕ) (step : Member → Result Member BookRefusal) (old new : Group) → entry_result place step old ≡ Ok new → (member : Member) × (changed : Member) × (slice_get old.members.items place ≡ Some member) × (step member ≡ Ok changed) × (entry_group place changed old ≡ new)
 altered_found place step old new is =
     let (member, changed, found, room, stepped, same) = altered_as place step old new is in
     (member, changed, found, stepped, same)
@@ -159,24 +159,24 @@ either_way true x n same = sym (same refl)
 either_way false x n same = refl
 
 -- a register that a correction leaves as it stood is seen as before
-unmoved : (posted : List Posting) (of at : MemberRegister) (n : ℕ) → n ≡ last_value posted of → last_value posted at ≡ (if same_register of at then n else last_value posted at)
+unmoved : (posted : List AcceptedCall) (of at : MemberRegister) (n : ℕ) → n ≡ last_value posted of → last_value posted at ≡ (if same_register of at then n else last_value posted at)
 unmoved posted of at n is = either_way (same_register of at) (last_value posted at) n (λ same. is ∙ ap (last_value posted) (registers_are of at same))
 
 -- an entry that reads a register, which then stands at the next value
-read_kept : (prices : ℕ → Prices) (posted : List Posting) (old new : Group) (month : ℕ) (entry : Entry) (of : MemberRegister) (day value next : ℕ)
+read_kept : (prices : ℕ → Prices) (posted : List AcceptedCall) (old new : Group) (month : ℕ) (entry : Entry) (of : MemberRegister) (day value next : ℕ)
     → Kept prices posted old
     → old.phase ≡ Open month
-    → altered of.place (on_register of (read month day value next)) old ≡ Ok new
-    → energy posted entry ≡ Some (of, counted_between (last_value posted of) value)
+    → entry_result of.place (on_register of (with_reading month day value next)) old ≡ Ok new
+    → energy_of posted entry ≡ Some (of, counted_between (last_value posted of) value)
     → ((at : MemberRegister) → last_value (Entered entry ∷ posted) at ≡ (if same_register of at then next else last_value posted at))
-    → ((place : ℕ) → owed prices place (Entered entry ∷ posted) ≡ owed prices place posted)
+    → ((place : ℕ) → amount_owed prices place (Entered entry ∷ posted) ≡ amount_owed prices place posted)
     → Kept prices (Entered entry ∷ posted) new
 read_kept prices posted old new month entry of day value next kept opened is told lasts owes =
-    let (member, changed, found, stepped, same) = altered_found of.place (on_register of (read month day value next)) old new is in
-    let (register, took, becomes) = made_ok (λ (r : Register). with_register of r member) (read month day value next (register_at of member)) changed stepped in
+    let (member, changed, found, stepped, same) = altered_found of.place (on_register of (with_reading month day value next)) old new is in
+    let (register, took, becomes) = made_ok (λ (r : Register). with_register of r member) (with_reading month day value next (register_at of member)) changed stepped in
     let stood = kept.standings of member found in
     let stands = read_stands month day value next (register_at of member) register took in
-    subst (λ g. Kept prices (Entered entry ∷ posted) g) same (subst (λ m. Kept prices (Entered entry ∷ posted) (entered of.place m old)) becomes
+    subst (λ g. Kept prices (Entered entry ∷ posted) g) same (subst (λ m. Kept prices (Entered entry ∷ posted) (entry_group of.place m old)) becomes
     (register_entered prices posted old entry month of (counted_between (register_at of member).standing value) member register kept opened found
     (read_counts month day value next (register_at of member) register took)
     (told ∙ ap (λ n. Some (of, counted_between n value)) (sym stood))
@@ -184,12 +184,12 @@ read_kept prices posted old new month entry of day value next kept opened is tol
     owes))
 
 -- an entry that corrects a tally
-corrected_kept : (prices : ℕ → Prices) (posted : List Posting) (old new : Group) (month : ℕ) (of : MemberRegister) (kwh : ℤ) → Kept prices posted old → old.phase ≡ Open month → altered of.place (on_register of (corrected kwh)) old ≡ Ok new → Kept prices (Entered (Correction of kwh) ∷ posted) new
+corrected_kept : (prices : ℕ → Prices) (posted : List AcceptedCall) (old new : Group) (month : ℕ) (of : MemberRegister) (kwh : ℤ) → Kept prices posted old → old.phase ≡ Open month → entry_result of.place (on_register of (with_correction kwh)) old ≡ Ok new → Kept prices (Entered (Correction of kwh) ∷ posted) new
 corrected_kept prices posted old new month of kwh kept opened is =
-    let (member, changed, found, stepped, same) = altered_found of.place (on_register of (corrected kwh)) old new is in
-    let (register, took, becomes) = made_ok (λ (r : Register). with_register of r member) (corrected kwh (register_at of member)) changed stepped in
+    let (member, changed, found, stepped, same) = altered_found of.place (on_register of (with_correction kwh)) old new is in
+    let (register, took, becomes) = made_ok (λ (r : Register). with_register of r member) (with_correction kwh (register_at of member)) changed stepped in
     let stands = corrected_stands kwh (register_at of member) register took in
-    subst (λ g. Kept prices (Entered (Correction of kwh) ∷ posted) g) same (subst (λ m. Kept prices (Entered (Correction of kwh) ∷ posted) (entered of.place m old)) becomes
+    subst (λ g. Kept prices (Entered (Correction of kwh) ∷ posted) g) same (subst (λ m. Kept prices (Entered (Correction of kwh) ∷ posted) (entry_group of.place m old)) becomes
     (register_entered prices posted old (Correction of kwh) month of kwh member register kept opened found
     (corrected_counts kwh (register_at of member) register took)
     refl
@@ -197,7 +197,7 @@ corrected_kept prices posted old new month of kwh kept opened is =
     (λ place. refl)))
 
 -- what a payment leaves
-paid_worth : (drams : ℕ) (account after : Account) → paid drams account ≡ Ok after → worth after ≡ worth account -ℤ pos (100 * drams)
+paid_worth : (drams : ℕ) (account after : Account) → with_payment drams account ≡ Ok after → worth after ≡ worth account -ℤ pos (100 * drams)
 paid_worth drams account after is =
     let debt : after.debt ≡ account.debt -ℤ pos drams = grind (arith, nat_tests, common_steps) in
     let fraction : after.fraction ≡ account.fraction = grind (arith, nat_tests, common_steps) in
@@ -207,20 +207,20 @@ less_nothing : (z : ℤ) → z ≡ z -ℤ pos 0
 less_nothing z = omega (arith, ints)
 
 -- the payer owes less, and nobody else
-owes_less : (prices : ℕ → Prices) (posted : List Posting) (payer drams place : ℕ) (z : ℤ) → (payer == place) ≡ true → z ≡ owed prices place posted → z -ℤ pos (100 * drams) ≡ owed prices place (Entered (Payment payer drams) ∷ posted)
+owes_less : (prices : ℕ → Prices) (posted : List AcceptedCall) (payer drams place : ℕ) (z : ℤ) → (payer == place) ≡ true → z ≡ amount_owed prices place posted → z -ℤ pos (100 * drams) ≡ amount_owed prices place (Entered (Payment payer drams) ∷ posted)
 owes_less prices posted payer drams place z same is = ap₂ (λ a (b : Bool). a -ℤ pos (if b then 100 * drams else 0)) is (sym same)
 
-owes_same : (prices : ℕ → Prices) (posted : List Posting) (payer drams place : ℕ) → (payer == place) ≡ false → owed prices place posted ≡ owed prices place (Entered (Payment payer drams) ∷ posted)
-owes_same prices posted payer drams place other = less_nothing (owed prices place posted) ∙ ap (λ (b : Bool). owed prices place posted -ℤ pos (if b then 100 * drams else 0)) (sym other)
+owes_same : (prices : ℕ → Prices) (posted : List AcceptedCall) (payer drams place : ℕ) → (payer == place) ≡ false → amount_owed prices place posted ≡ amount_owed prices place (Entered (Payment payer drams) ∷ posted)
+owes_same prices posted payer drams place other = less_nothing (amount_owed prices place posted) ∙ ap (λ (b : Bool). amount_owed prices place posted -ℤ pos (if b then 100 * drams else 0)) (sym other)
 
 -- an entry that pays
-paid_kept : (prices : ℕ → Prices) (posted : List Posting) (old new : Group) (month payer drams : ℕ) → Kept prices posted old → old.phase ≡ Open month → altered payer (on_account (paid drams)) old ≡ Ok new → Kept prices (Entered (Payment payer drams) ∷ posted) new
+paid_kept : (prices : ℕ → Prices) (posted : List AcceptedCall) (old new : Group) (month payer drams : ℕ) → Kept prices posted old → old.phase ≡ Open month → entry_result payer (on_account (with_payment drams)) old ≡ Ok new → Kept prices (Entered (Payment payer drams) ∷ posted) new
 paid_kept prices posted old new month payer drams kept opened is =
-    let (member, changed, found, stepped, same) = altered_found payer (on_account (paid drams)) old new is in
-    let (account, took, becomes) = made_ok (λ (a : Account). record member { account = a }) (paid drams member.account) changed stepped in
+    let (member, changed, found, stepped, same) = altered_found payer (on_account (with_payment drams)) old new is in
+    let (account, took, becomes) = made_ok (λ (a : Account). record member { account = a }) (with_payment drams member.account) changed stepped in
     let members = old.members.items in
     let debtor = record member { account = account } in
-    subst (λ g. Kept prices (Entered (Payment payer drams) ∷ posted) g) same (subst (λ m. Kept prices (Entered (Payment payer drams) ∷ posted) (entered payer m old)) becomes (record {
+    subst (λ g. Kept prices (Entered (Payment payer drams) ∷ posted) g) same (subst (λ m. Kept prices (Entered (Payment payer drams) ∷ posted) (entry_group payer m old)) becomes (record {
       standings = λ at m there. ⊎_elim
           (λ h. ap (λ (x : Member). (register_at at x).standing) h.1 ∙ kept.standings at member (subst (λ p. slice_get members p ≡ Some member) (sym h.0) found))
           (λ h. kept.standings at m h.1)
@@ -241,7 +241,7 @@ paid_kept prices posted old new month payer drams kept opened is =
       month = month_kept old.phase month (Payment payer drams) posted opened kept.month;
     }))
 
-pub entry_kept : (prices : ℕ → Prices) (posted : List Posting) (old new : Group) (month : ℕ) (entry : Entry) → Kept prices posted old → old.phase ≡ Open month → altered (place_of entry) (recorded month entry) old ≡ Ok new → Kept prices (Entered entry ∷ posted) new
+pub entry_kept : (prices : ℕ → Prices) (posted : List AcceptedCall) (old new : Group) (month : ℕ) (entry : Entry) → Kept prices posted old → old.phase ≡ Open month → entry_result (place_of entry) (recorded_member month entry) old ≡ Ok new → Kept prices (Entered entry ∷ posted) new
 entry_kept prices posted old new month (Reading of day value) kept opened is = read_kept prices posted old new month (Reading of day value) of day value value kept opened is refl (λ at. refl) (λ place. refl)
 entry_kept prices posted old new month (Change of day value start) kept opened is = read_kept prices posted old new month (Change of day value start) of day value start kept opened is refl (λ at. refl) (λ place. refl)
 entry_kept prices posted old new month (Correction of kwh) kept opened is = corrected_kept prices posted old new month of kwh kept opened is

@@ -2,7 +2,7 @@
 use Rattle.std.proofs.Common.{◌≡◌, ℕ, suc, ◌+◌, List, [], ◌∷◌, length, map, drop, sum, get_or, ℤ, pos, negsuc, ◌-ℤ◌, ◌⊎◌, inl, inr, ⊎_elim, refl, ap, ◌∙◌, sym, arith, drop-cons, drop_of_length-le, add-one, ◌<◌}
 use Rattle.std.proofs.lemmas.Bool.{cases_lt}
 use Rattle.std.proofs.lemmas.Int.{ints}
-use Rattle.sharing.specs.Fairness.{sum_cons, sum_less}
+use Rattle.sharing.specs.KeepingTheLaw.{sum_cons, sum_less}
 use Rattle.billing.specs.Zones.{need, needs_of, surplus}
 use Rattle.ledger.specs.Zones.{in_zone}
 use Rattle.billing.specs.declared.supply.Supply.{Supply}
@@ -13,11 +13,11 @@ use Rattle.ledger.specs.declared.zone.Zone.TheVariants.{Day, Night}
 use Rattle.group.specs.declared.group.Group.{Group}
 use Rattle.group.specs.declared.member.Member.{Member}
 use Rattle.group.proofs.MonthsSound.{billed_length}
-use Rattle.group.specs.Months.{Keeps, Share, Prices, bill_of, billed_in, by_place, carried_in, lines_of, net_in, nets_in, nets_of, pool_in, supplies_at}
+use Rattle.group.specs.Months.{KeepsSharingLaw, Share, Prices, bill_of, billed_in, by_place, carried_in, bills_of, net_in, nets_in, nets_of, pool_in, supplies_at}
 use Rattle.balance.proofs.Bills.{line_billed}
 use Rattle.balance.proofs.Found.{sum_of}
 use Rattle.balance.proofs.Slots.{tally_in}
-use Rattle.balance.specs.Postings.{billed_by}
+use Rattle.balance.specs.Postings.{kwh_billed_by}
 
 -- a net is its need less its surplus
 net_is : (z : ℤ) → pos (need z) -ℤ pos (surplus z) ≡ z
@@ -43,7 +43,7 @@ nets_of_tallies zone [] = refl
 nets_of_tallies zone (m ∷ ms) = let rest = nets_of_tallies zone ms in let one = net_of_tallies zone m in omega (arith, ints, rest, one)
 
 -- what is carried on less what is billed is what was carried less the nets
-pub zone_balances : (share : Share) → Keeps share → (zone : Zone) (group : Group) → pos (carried_in share zone group) -ℤ pos (sum (billed_in share zone group)) ≡ pos (in_zone group.carried zone) -ℤ sum_of (net_in zone) group.members.items
+pub zone_balances : (share : Share) → KeepsSharingLaw share → (zone : Zone) (group : Group) → pos (carried_in share zone group) -ℤ pos (sum (billed_in share zone group)) ≡ pos (in_zone group.carried zone) -ℤ sum_of (net_in zone) group.members.items
 zone_balances share keeps zone group =
     let pool = pool_in zone group in
     let needs = needs_of (nets_in zone group) in
@@ -54,7 +54,7 @@ zone_balances share keeps zone group =
     omega (arith, ints, law.whole, rest, nets)
 
 -- a zone does not both bill and carry
-pub zone_not_both : (share : Share) → Keeps share → (zone : Zone) (group : Group) → (sum (billed_in share zone group) ≡ 0) ⊎ (carried_in share zone group ≡ 0)
+pub zone_not_both : (share : Share) → KeepsSharingLaw share → (zone : Zone) (group : Group) → (sum (billed_in share zone group) ≡ 0) ⊎ (carried_in share zone group ≡ 0)
 zone_not_both share keeps zone group =
     let pool = pool_in zone group in
     let needs = needs_of (nets_in zone group) in
@@ -63,22 +63,22 @@ zone_not_both share keeps zone group =
     let rest = sum_less needs shares law.as_many law.within in
     ⊎_elim (λ short. inr (omega (arith, law.whole, short))) (λ enough. inl (omega (arith, law.whole, rest, enough))) (cases_lt pool (sum needs))
 
--- the lines bill just what the zone bills
-lines_bill : (zone : Zone) (price : Prices) (supply : ℕ → ByZone Supply) (bills : List ℕ) → ((place : ℕ) → (in_zone (supply place) zone).billed ≡ get_or bills place 0) → (first : ℕ) (members : List Member) → first + length members ≡ length bills → billed_by zone (by_place (λ place member. bill_of price member (supply place)) first members) ≡ sum (drop first bills)
-lines_bill zone price supply bills told first [] all = sym (ap sum (drop_of_length-le bills (omega arith)))
-lines_bill zone price supply bills told first (m ∷ ms) all =
+-- the bills bill just what the zone bills
+lines_bill : (zone : Zone) (price : Prices) (supply : ℕ → ByZone Supply) (is_billed : List ℕ) → ((place : ℕ) → (in_zone (supply place) zone).billed ≡ get_or is_billed place 0) → (first : ℕ) (members : List Member) → first + length members ≡ length is_billed → kwh_billed_by zone (by_place (λ place member. bill_of price member (supply place)) first members) ≡ sum (drop first is_billed)
+lines_bill zone price supply is_billed told first [] all = sym (ap sum (drop_of_length-le is_billed (omega arith)))
+lines_bill zone price supply is_billed told first (m ∷ ms) all =
     let f = λ (place : ℕ) (member : Member). bill_of price member (supply place) in
-    let rest = lines_bill zone price supply bills told (first + 1) ms (omega arith) in
+    let rest = lines_bill zone price supply is_billed told (first + 1) ms (omega arith) in
     let own = line_billed zone price m (supply first).day (supply first).night ∙ told first in
-    let inside : first < length bills = omega arith in
-    let front = ap sum (drop-cons bills first 0 inside) ∙ sum_cons (get_or bills first 0) (drop (suc first) bills) in
-    let lines = sum_cons (in_zone (f first m).billed zone) (map (λ line. in_zone line.billed zone) (by_place f (first + 1) ms)) in
-    let next : sum (drop (first + 1) bills) ≡ sum (drop (suc first) bills) = ap (λ n. sum (drop n bills)) (add-one first) in
-    omega (arith, rest, own, front, lines, next)
+    let inside : first < length is_billed = omega arith in
+    let front = ap sum (drop-cons is_billed first 0 inside) ∙ sum_cons (get_or is_billed first 0) (drop (suc first) is_billed) in
+    let bills = sum_cons (in_zone (f first m).billed zone) (map (λ bill. in_zone bill.billed zone) (by_place f (first + 1) ms)) in
+    let next : sum (drop (first + 1) is_billed) ≡ sum (drop (suc first) is_billed) = ap (λ n. sum (drop n is_billed)) (add-one first) in
+    omega (arith, rest, own, front, bills, next)
 
 supplied : (share : Share) (zone : Zone) (group : Group) (place : ℕ) → (in_zone (supplies_at share group place) zone).billed ≡ get_or (billed_in share zone group) place 0
 supplied share Day group place = refl
 supplied share Night group place = refl
 
-pub lines_billed : (share : Share) (zone : Zone) (price : Prices) (group : Group) → billed_by zone (lines_of share price group) ≡ sum (billed_in share zone group)
+pub lines_billed : (share : Share) (zone : Zone) (price : Prices) (group : Group) → kwh_billed_by zone (bills_of share price group) ≡ sum (billed_in share zone group)
 lines_billed share zone price group = lines_bill zone price (λ place. supplies_at share group place) (billed_in share zone group) (supplied share zone group) 0 group.members.items (omega (arith, billed_length share zone group))

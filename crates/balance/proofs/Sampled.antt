@@ -1,7 +1,7 @@
 -- The figures of the sample history.
 use Rattle.std.proofs.Common.{◌≡◌, ◌++◌, ℕ, ℤ, pos, negsuc, slice_index_or, ⊎_elim, refl, subst, arith}
 use Rattle.std.proofs.lemmas.Int.{ints}
-use Rattle.sharing.specs.Fairness.{line_order_fair}
+use Rattle.sharing.specs.KeepingTheLaw.{line_order_keeps_law}
 use Rattle.sharing.specs.Rules.{line_order}
 use Rattle.group.specs.Members.{nobody}
 use Rattle.group.specs.Registers.{quantity}
@@ -10,11 +10,11 @@ use Rattle.group.specs.Months.{bill_of, billed_member}
 use Rattle.group.specs.Years.{year_figures}
 use Rattle.balance.proofs.WholeRuns.{run_leads}
 use Rattle.balance.proofs.Theorem.{throughout}
-use Rattle.balance.specs.Balances.{BalancedThroughout}
+use Rattle.balance.specs.Balances.{IsBalancedThroughout}
 use Rattle.balance.specs.Runs.{run}
-use Rattle.balance.specs.Sample.{SampleTells, closed_group, december, in_december, in_november, november, sample_prices, told}
+use Rattle.balance.specs.Sample.{SampleTells, closed_group, december, december_bills, november_bills, november, sample_prices, sample_result}
 
-sample_is : (run line_order sample_prices (november ++ december)).0 ≡ told (in_november 510 33) (in_december 0)
+sample_is : (run line_order sample_prices (november ++ december)).0 ≡ sample_result (november_bills 510 33) (december_bills 0)
 unfolding quantity bill_of billed_member year_figures
 sample_is = refl
 
@@ -30,7 +30,7 @@ sample_tells = record {
   holder_is_owed = refl;
   household_owes = refl;
   vulnerable_owes = refl;
-  balances = subst (λ h. BalancedThroughout line_order sample_prices h closed_group) sample_is (throughout line_order line_order_fair sample_prices (run line_order sample_prices (november ++ december)).0 closed_group (run_leads line_order sample_prices (november ++ december)));
+  balances = subst (λ h. IsBalancedThroughout line_order sample_prices h closed_group) sample_is (throughout line_order line_order_keeps_law sample_prices (run line_order sample_prices (november ++ december)).0 closed_group (run_leads line_order sample_prices (november ++ december)));
   no_kwh_more = λ by_night. let e : ◌≡◌ {A = ℤ} (negsuc 67) (negsuc 68) = by_night in omega (arith, ints);
   no_hundredth_more = λ owes. let e : ◌≡◌ {A = ℤ} (pos 754295) (pos 755295) = owes household refl in omega (arith, ints);
   not_both = ⊎_elim (λ billed. let e : ◌≡◌ {A = ℕ} 1 0 = billed in omega arith) (λ carried. let e : ◌≡◌ {A = ℕ} 140 0 = carried in omega arith);

@@ -10,7 +10,7 @@ use Rattle.ledger.specs.declared.zone.Zone.TheVariants.{Day, Night}
 use Rattle.group.specs.Members.{register_at, with_register}
 use Rattle.group.specs.declared.member.Member.{Member}
 use Rattle.group.specs.declared.register.Register.{Register}
-use Rattle.balance.specs.Postings.{energy_in, same_flow, same_zone}
+use Rattle.balance.specs.Postings.{energy_part, same_flow, same_zone}
 
 -- the tally of a member in a zone and a flow
 abbrev pub tally_in : Zone → Flow → Member → ℤ
@@ -43,7 +43,7 @@ pub register_replaced : (of at : MemberRegister) (r : Register) (m : Member) →
 register_replaced of at r m = replaced of.zone of.flow at.zone at.flow of.place at.place r m
 
 -- and moves one tally
-tallies : (p : ℕ) (pz : Zone) (pf : Flow) (zone : Zone) (flow : Flow) (r : Register) (kwh : ℤ) (m : Member) → r.tally ≡ tally_in pz pf m +ℤ kwh → tally_in zone flow (with_register (slot p pz pf) r m) ≡ tally_in zone flow m +ℤ energy_in zone flow (Some (slot p pz pf, kwh))
+tallies : (p : ℕ) (pz : Zone) (pf : Flow) (zone : Zone) (flow : Flow) (r : Register) (kwh : ℤ) (m : Member) → r.tally ≡ tally_in pz pf m +ℤ kwh → tally_in zone flow (with_register (slot p pz pf) r m) ≡ tally_in zone flow m +ℤ energy_part zone flow (Some (slot p pz pf, kwh))
 tallies p Day Consumed Day Consumed r kwh m is = is
 tallies p Day Consumed Day Delivered r kwh m is = omega (arith, ints)
 tallies p Day Consumed Night Consumed r kwh m is = omega (arith, ints)
@@ -61,5 +61,5 @@ tallies p Night Delivered Day Delivered r kwh m is = omega (arith, ints)
 tallies p Night Delivered Night Consumed r kwh m is = omega (arith, ints)
 tallies p Night Delivered Night Delivered r kwh m is = is
 
-pub tally_replaced : (of : MemberRegister) (zone : Zone) (flow : Flow) (r : Register) (kwh : ℤ) (m : Member) → r.tally ≡ (register_at of m).tally +ℤ kwh → tally_in zone flow (with_register of r m) ≡ tally_in zone flow m +ℤ energy_in zone flow (Some (of, kwh))
+pub tally_replaced : (of : MemberRegister) (zone : Zone) (flow : Flow) (r : Register) (kwh : ℤ) (m : Member) → r.tally ≡ (register_at of m).tally +ℤ kwh → tally_in zone flow (with_register of r m) ≡ tally_in zone flow m +ℤ energy_part zone flow (Some (of, kwh))
 tally_replaced of zone flow r kwh m is = tallies of.place of.zone of.flow zone flow r kwh m is

@@ -4,18 +4,18 @@ use Rattle.ledger.specs.declared.bill.Bill.{Bill}
 use Rattle.ledger.specs.declared.entry.Entry.{Entry}
 use Rattle.group.specs.declared.group.Group.{Group}
 use Rattle.group.specs.declared.group.Phase.TheVariants.{Open}
-use Rattle.group.specs.Drafts.{Stamp, drawn, is_current, issued}
+use Rattle.group.specs.Drafts.{Stamp, drawing_result, is_current, issue_result}
 use Rattle.group.specs.Entries.{after_entry}
 use Rattle.group.specs.Months.{Prices, Share}
 use Rattle.balance.specs.Histories.{Event, Drawing, Happens, Leads}
-use Rattle.balance.specs.Postings.{posting, postings}
+use Rattle.balance.specs.Postings.{accepted_call, accepted_calls}
 
 -- a draft that is drawn now is current
 abbrev pub DrawnNowIsCurrent : Type 0
 DrawnNowIsCurrent =
     (share : Share) (prices : ℕ → Prices) (places : ℕ)
-    (group : Group) (stamp : Stamp) (lines : List Bill)
-    → drawn share prices places group ≡ Ok (stamp, lines) → is_current group stamp ≡ true
+    (group : Group) (stamp : Stamp) (bills : List Bill)
+    → drawing_result share prices places group ≡ Ok (stamp, bills) → is_current group stamp ≡ true
 
 -- an accepted entry leaves none current that was so
 abbrev pub EntriesEndDrafts : Type 0
@@ -27,8 +27,8 @@ EntriesEndDrafts =
 abbrev pub IssuesEndDrafts : Type 0
 IssuesEndDrafts =
     (share : Share) (prices : ℕ → Prices) (issue : Stamp) (places : ℕ)
-    (old new : Group) (lines : List Bill) (stamp : Stamp)
-    → issued share prices issue places old ≡ Ok (lines, new)
+    (old new : Group) (bills : List Bill) (stamp : Stamp)
+    → issue_result share prices issue places old ≡ Ok (bills, new)
     → is_current old stamp ≡ true → is_current new stamp ≡ false
 
 -- in another phase than an open month none is current
@@ -47,7 +47,7 @@ abbrev pub QuietCallsLeaveDrafts : Type 0
 QuietCallsLeaveDrafts =
     (share : Share) (prices : ℕ → Prices)
     (old : Group) (event : Event) (new : Group) (stamp : Stamp)
-    → Happens share prices old event new → posting event ≡ []
+    → Happens share prices old event new → accepted_call event ≡ []
     → is_current new stamp ≡ is_current old stamp
 
 -- when a draft is current, by the call that is made
@@ -63,6 +63,6 @@ pub record DraftsByCall : Type 0 where
 abbrev pub DraftsByHistory : Type 0
 DraftsByHistory =
     (share : Share) (prices : ℕ → Prices) (earlier later : List Event)
-    (places : ℕ) (stamp : Stamp) (lines : List Bill) (group : Group)
-    → Leads share prices (later ++ Drawing places (Ok (stamp, lines)) ∷ earlier) group
-    → (is_current group stamp ≡ true) ↔ (postings later ≡ [])
+    (places : ℕ) (stamp : Stamp) (bills : List Bill) (group : Group)
+    → Leads share prices (later ++ Drawing places (Ok (stamp, bills)) ∷ earlier) group
+    → (is_current group stamp ≡ true) ↔ (accepted_calls later ≡ [])

@@ -21,30 +21,30 @@ use Rattle.group.specs.Months.{Prices}
 use Rattle.balance.specs.Histories.{Event, Opening, Entering, Drawing, Checking, Issuing, Withdrawing, Closing}
 
 -- what an accepted call posts
-pub data Posting : Type 0 where
-  Opened : (start holder : ℕ) → List OpeningRecord → Posting
-  Entered : Entry → Posting
-  Issued : List Bill → Posting
-  YearPaid : YearEnd → Posting
+pub data AcceptedCall : Type 0 where
+  Opened : (start holder : ℕ) → List OpeningRecord → AcceptedCall
+  Entered : Entry → AcceptedCall
+  Issued : List Bill → AcceptedCall
+  YearPaid : YearEnd → AcceptedCall
 
 -- what a call posts: refused calls, drawings, checks and withdrawals post nothing
-abbrev pub posting : Event → List Posting
-posting (Opening number start holder records (Ok done)) = Opened start holder records ∷ []
-posting (Opening number start holder records (Err refusal)) = []
-posting (Entering entry (Ok done)) = Entered entry ∷ []
-posting (Entering entry (Err refusal)) = []
-posting (Drawing places answer) = []
-posting (Checking stamp current) = []
-posting (Issuing stamp places (Ok lines)) = Issued lines ∷ []
-posting (Issuing stamp places (Err refusal)) = []
-posting (Withdrawing stamp) = []
-posting (Closing (Ok figures)) = YearPaid figures ∷ []
-posting (Closing (Err refusal)) = []
+abbrev pub accepted_call : Event → List AcceptedCall
+accepted_call (Opening number start holder records (Ok done)) = Opened start holder records ∷ []
+accepted_call (Opening number start holder records (Err refusal)) = []
+accepted_call (Entering entry (Ok done)) = Entered entry ∷ []
+accepted_call (Entering entry (Err refusal)) = []
+accepted_call (Drawing places answer) = []
+accepted_call (Checking stamp current) = []
+accepted_call (Issuing stamp places (Ok bills)) = Issued bills ∷ []
+accepted_call (Issuing stamp places (Err refusal)) = []
+accepted_call (Withdrawing stamp) = []
+accepted_call (Closing (Ok figures)) = YearPaid figures ∷ []
+accepted_call (Closing (Err refusal)) = []
 
 -- what a history posts, the latest first
-abbrev pub postings : List Event → List Posting
-postings [] = []
-postings (event ∷ history) = posting event ++ postings history
+abbrev pub accepted_calls : List Event → List AcceptedCall
+accepted_calls [] = []
+accepted_calls (event ∷ history) = accepted_call event ++ accepted_calls history
 
 -- whether two zones are the same
 abbrev pub same_zone : Zone → Zone → Bool
@@ -69,7 +69,7 @@ abbrev opening_value : List OpeningRecord → MemberRegister → ℕ
 opening_value records at = option_map_or (standing_at at) (slice_get records at.place) 0
 
 -- the value that the latest accepted reading or change of a register left, or its opening value
-abbrev pub last_value : List Posting → MemberRegister → ℕ
+abbrev pub last_value : List AcceptedCall → MemberRegister → ℕ
 last_value [] at = 0
 last_value (Opened start holder records ∷ earlier) at = opening_value records at
 last_value (Entered (Reading of day value) ∷ earlier) at = if same_register of at then value else last_value earlier at
@@ -81,72 +81,72 @@ abbrev pub counted_between : (last value : ℕ) → ℤ
 counted_between last value = pos value -ℤ pos last
 
 -- the register and the kWh of an entry after those that were posted before it: a reading's or a final value's count from the last value, and a correction is its own; a payment has none
-abbrev pub energy : List Posting → Entry → Option (MemberRegister × ℤ)
-energy earlier (Reading of day value) = Some (of, counted_between (last_value earlier of) value)
-energy earlier (Change of day value start) = Some (of, counted_between (last_value earlier of) value)
-energy earlier (Correction of kwh) = Some (of, kwh)
-energy earlier (Payment place drams) = None
+abbrev pub energy_of : List AcceptedCall → Entry → Option (MemberRegister × ℤ)
+energy_of earlier (Reading of day value) = Some (of, counted_between (last_value earlier of) value)
+energy_of earlier (Change of day value start) = Some (of, counted_between (last_value earlier of) value)
+energy_of earlier (Correction of kwh) = Some (of, kwh)
+energy_of earlier (Payment place drams) = None
 
 -- the kWh of an entry in a zone and a flow
-abbrev pub energy_in : Zone → Flow → Option (MemberRegister × ℤ) → ℤ
-energy_in zone flow None = pos 0
-energy_in zone flow (Some (of, kwh)) = if same_zone of.zone zone && same_flow of.flow flow then kwh else pos 0
+abbrev pub energy_part : Zone → Flow → Option (MemberRegister × ℤ) → ℤ
+energy_part zone flow None = pos 0
+energy_part zone flow (Some (of, kwh)) = if same_zone of.zone zone && same_flow of.flow flow then kwh else pos 0
 
 -- the kWh of all entries in a zone and a flow
-abbrev pub entered_in : Zone → Flow → List Posting → ℤ
-entered_in zone flow [] = pos 0
-entered_in zone flow (Entered entry ∷ earlier) =
-    entered_in zone flow earlier +ℤ energy_in zone flow (energy earlier entry)
-entered_in zone flow (other ∷ earlier) = entered_in zone flow earlier
+abbrev pub entered_kwh : Zone → Flow → List AcceptedCall → ℤ
+entered_kwh zone flow [] = pos 0
+entered_kwh zone flow (Entered entry ∷ earlier) =
+    entered_kwh zone flow earlier +ℤ energy_part zone flow (energy_of earlier entry)
+entered_kwh zone flow (other ∷ earlier) = entered_kwh zone flow earlier
 
 -- the kWh of the entries since the last issue in a zone and a flow
-abbrev pub open_in : Zone → Flow → List Posting → ℤ
-open_in zone flow [] = pos 0
-open_in zone flow (Entered entry ∷ earlier) =
-    open_in zone flow earlier +ℤ energy_in zone flow (energy earlier entry)
-open_in zone flow (Issued lines ∷ earlier) = pos 0
-open_in zone flow (other ∷ earlier) = open_in zone flow earlier
+abbrev pub open_kwh : Zone → Flow → List AcceptedCall → ℤ
+open_kwh zone flow [] = pos 0
+open_kwh zone flow (Entered entry ∷ earlier) =
+    open_kwh zone flow earlier +ℤ energy_part zone flow (energy_of earlier entry)
+open_kwh zone flow (Issued bills ∷ earlier) = pos 0
+open_kwh zone flow (other ∷ earlier) = open_kwh zone flow earlier
 
--- the kWh that are billed in a zone by lines
-abbrev pub billed_by : Zone → List Bill → ℕ
-billed_by zone lines = sum (map (λ line. in_zone line.billed zone) lines)
+-- the kWh that are billed in a zone by bills
+abbrev pub kwh_billed_by : Zone → List Bill → ℕ
+kwh_billed_by zone bills = sum (map (λ bill. in_zone bill.billed zone) bills)
 
 -- the kWh that all issues billed in a zone
-abbrev pub billed : Zone → List Posting → ℕ
-billed zone [] = 0
-billed zone (Issued lines ∷ earlier) = billed zone earlier + billed_by zone lines
-billed zone (other ∷ earlier) = billed zone earlier
+abbrev pub billed_kwh : Zone → List AcceptedCall → ℕ
+billed_kwh zone [] = 0
+billed_kwh zone (Issued bills ∷ earlier) = billed_kwh zone earlier + kwh_billed_by zone bills
+billed_kwh zone (other ∷ earlier) = billed_kwh zone earlier
 
 -- the kWh that all year ends paid in a zone
-abbrev pub paid_in : Zone → List Posting → ℕ
-paid_in zone [] = 0
-paid_in zone (YearPaid figures ∷ earlier) = paid_in zone earlier + in_zone figures.paid zone
-paid_in zone (other ∷ earlier) = paid_in zone earlier
+abbrev pub kwh_paid : Zone → List AcceptedCall → ℕ
+kwh_paid zone [] = 0
+kwh_paid zone (YearPaid figures ∷ earlier) = kwh_paid zone earlier + in_zone figures.paid zone
+kwh_paid zone (other ∷ earlier) = kwh_paid zone earlier
 
 -- what the opening told: the holder's place, and the class of the member at a place
-abbrev pub holder_in : List Posting → ℕ
+abbrev pub holder_in : List AcceptedCall → ℕ
 holder_in [] = 0
 holder_in (Opened start holder records ∷ earlier) = holder
 holder_in (other ∷ earlier) = holder_in earlier
 
 -- the class of the member at a place, by its opening record
-abbrev pub class_at : (place : ℕ) → List Posting → Class
+abbrev pub class_at : (place : ℕ) → List AcceptedCall → Class
 class_at place [] = Other
 class_at place (Opened start holder records ∷ earlier) = option_map_or class_of (slice_get records place) Other
 class_at place (other ∷ earlier) = class_at place earlier
 
 -- the month after the last issue: the start month, and one more for each issue
-abbrev pub month_after : List Posting → ℕ
+abbrev pub month_after : List AcceptedCall → ℕ
 month_after [] = 0
 month_after (Opened start holder records ∷ earlier) = start
-month_after (Issued lines ∷ earlier) = month_after earlier + 1
+month_after (Issued bills ∷ earlier) = month_after earlier + 1
 month_after (other ∷ earlier) = month_after earlier
 
--- what a line charges, in hundredths of a dram: billed kWh at the zone's energy price and covered ones at that of distribution
+-- what a bill charges, in hundredths of a dram: billed kWh at the zone's energy price and covered ones at that of distribution
 abbrev pub charge : (Service → ℕ) → Bill → ℕ
-charge price line =
-    (line.billed.day * price (service.Energy Day) + line.covered.day * price service.Distribution)
-    + (line.billed.night * price (service.Energy Night) + line.covered.night * price service.Distribution)
+charge price bill =
+    (bill.billed.day * price (service.Energy Day) + bill.covered.day * price service.Distribution)
+    + (bill.billed.night * price (service.Energy Night) + bill.covered.night * price service.Distribution)
 
 -- what a year's end credits, in hundredths of a dram: each zone's kWh at its year-end price
 abbrev pub credit : (Service → ℕ) → YearEnd → ℕ
@@ -154,19 +154,19 @@ credit price figures =
     figures.paid.day * price (service.YearEnd Day) + figures.paid.night * price (service.YearEnd Night)
 
 -- the prices of a month for a class
-abbrev pub priced : (ℕ → Prices) → (month : ℕ) → Class → Service → ℕ
-priced prices month class service' = prices month service' class
+abbrev pub prices_for : (ℕ → Prices) → (month : ℕ) → Class → Service → ℕ
+prices_for prices month class service' = prices month service' class
 
--- what the member at a place owes, in hundredths of a dram: what the lines charge at the prices of their month,
+-- what the member at a place owes, in hundredths of a dram: what the bills charge at the prices of their month,
 -- less its payments, less, for the holder, what the year ends credit at the prices of the December issued before
-abbrev pub owed : (ℕ → Prices) → (place : ℕ) → List Posting → ℤ
-owed prices place [] = pos 0
-owed prices place (Entered (Payment payer drams) ∷ earlier) =
-    owed prices place earlier -ℤ pos (if payer == place then 100 * drams else 0)
-owed prices place (Issued lines ∷ earlier) =
-    let price = priced prices (month_after earlier) (class_at place earlier) in
-    owed prices place earlier +ℤ pos (option_map_or (charge price) (slice_get lines place) 0)
-owed prices place (YearPaid figures ∷ earlier) =
-    let price = priced prices (month_after earlier - 1) (class_at place earlier) in
-    owed prices place earlier -ℤ pos (if holder_in earlier == place then credit price figures else 0)
-owed prices place (other ∷ earlier) = owed prices place earlier
+abbrev pub amount_owed : (ℕ → Prices) → (place : ℕ) → List AcceptedCall → ℤ
+amount_owed prices place [] = pos 0
+amount_owed prices place (Entered (Payment payer drams) ∷ earlier) =
+    amount_owed prices place earlier -ℤ pos (if payer == place then 100 * drams else 0)
+amount_owed prices place (Issued bills ∷ earlier) =
+    let price = prices_for prices (month_after earlier) (class_at place earlier) in
+    amount_owed prices place earlier +ℤ pos (option_map_or (charge price) (slice_get bills place) 0)
+amount_owed prices place (YearPaid figures ∷ earlier) =
+    let price = prices_for prices (month_after earlier - 1) (class_at place earlier) in
+    amount_owed prices place earlier -ℤ pos (if holder_in earlier == place then credit price figures else 0)
+amount_owed prices place (other ∷ earlier) = amount_owed prices place earlier

@@ -1,4 +1,4 @@
--- One history with its figures, which balances, and the same with one kWh more on one line, which does not.
+-- One history with its figures, which balances, and the same with one kWh more on one bill, which does not.
 use Rattle.std.specs.Prelude.{◌≡◌, ℕ, ◌+◌, ◌-◌, ◌*◌, ℤ, true, false, List, [], ◌∷◌, ◌++◌, take, Result, pos, negsuc, Ok, Err}
 use Rattle.ledger.specs.declared.bill.Bill.{Bill}
 use Rattle.ledger.specs.declared.bill.YearEnd.{YearEnd}
@@ -11,7 +11,7 @@ use Rattle.ledger.specs.declared.zone.Zone.TheVariants.{Day, Night}
 use Rattle.billing.specs.declared.account.Account.{Account}
 use Rattle.group.specs.Groups.{member_at}
 use Rattle.group.specs.Members.{opening_record}
-use Rattle.group.specs.Results.{made}
+use Rattle.group.specs.Results.{result_map}
 use Rattle.group.specs.declared.group.Group.{Group}
 use Rattle.ledger.specs.declared.zone.ByZone.{ByZone}
 use Rattle.group.specs.declared.member.OpeningRecord.{OpeningRecord}
@@ -23,10 +23,10 @@ use Rattle.tariff.specs.declared.class.Class.TheVariants.{Household, Other, Vuln
 use Rattle.tariff.specs.declared.service.Service.TheVariants as service
 use Rattle.group.specs.Drafts.{Stamp}
 use Rattle.group.specs.Months.{Prices}
-use Rattle.balance.specs.Balances.{BalancedThroughout, EnergyBalances, MoneyBalances, NotBoth}
+use Rattle.balance.specs.Balances.{IsBalancedThroughout, EnergyBalances, MoneyBalances, DoesNotBillAndCarry}
 use Rattle.balance.specs.Histories.{Event, Opening, Entering, Drawing, Checking, Issuing, Withdrawing, Closing}
 use Rattle.balance.specs.Runs.{Call, Open, Enter, Draw, Check, Issue, Withdraw, Close, run}
-use Rattle.balance.specs.Postings.{postings}
+use Rattle.balance.specs.Postings.{accepted_calls}
 
 -- prices that differ by month and by class
 abbrev pub sample_prices : ℕ → Prices
@@ -102,9 +102,9 @@ december =
     ∷ Close
     ∷ []
 
--- the line of a member
-abbrev line : (billed covered : ByZone ℕ) → (drams debt : ℤ) → Bill
-line billed covered drams debt = record {
+-- the bill of a member
+abbrev bill : (billed covered : ByZone ℕ) → (drams debt : ℤ) → Bill
+bill billed covered drams debt = record {
   billed = billed;
   covered = covered;
   drams = drams;
@@ -115,42 +115,42 @@ line billed covered drams debt = record {
 abbrev kwh : (day night : ℕ) → ByZone ℕ
 kwh day night = record { day = day; night = night }
 
--- the line of who is billed nothing
+-- the bill of who is billed nothing
 abbrev nothing : Bill
-nothing = line (kwh 0 0) (kwh 0 0) (pos 0) (pos 0)
+nothing = bill (kwh 0 0) (kwh 0 0) (pos 0) (pos 0)
 
 -- the household's November, with so many kWh covered by day and billed by night: of 510 kWh by day all are covered by 1,200, and 33 by night are billed;
 -- 510 × 10.00 + 33 × 35.07 drams are 6,257.31, of which 1,000 were paid before
-abbrev pub in_november : (covered billed : ℕ) → Bill
-in_november covered billed = line (kwh 0 billed) (kwh covered 0) (pos 6257) (pos 5257)
+abbrev pub november_bills : (covered billed : ℕ) → Bill
+november_bills covered billed = bill (kwh 0 billed) (kwh covered 0) (pos 6257) (pos 5257)
 
 -- the same before they were paid
 abbrev unpaid : Bill
-unpaid = record (in_november 510 33) { debt = pos 6257 }
+unpaid = record (november_bills 510 33) { debt = pos 6257 }
 
 -- the vulnerable member's November: 300 kWh by day are covered, which leaves 390 of the 1,200, and 28 by night are billed;
 -- 300 × 6.50 + 28 × 25.03 drams are 2,650.84
 abbrev vulnerable_november : Bill
-vulnerable_november = line (kwh 0 28) (kwh 300 0) (pos 2650) (pos 2650)
+vulnerable_november = bill (kwh 0 28) (kwh 300 0) (pos 2650) (pos 2650)
 
 -- the household's December, with so many kWh billed by day: of 200 kWh by day all are covered by the 390 that were carried;
 -- of 10 by night 3 are covered by those of the negative consumption, and 7 are billed;
 -- 203 × 10.05 + 7 × 35.07 drams are 2,285.64, and 31 hundredths were kept
-abbrev pub in_december : (billed : ℕ) → Bill
-in_december billed = line (kwh billed 7) (kwh 200 3) (pos 2285) (pos 7542)
+abbrev pub december_bills : (billed : ℕ) → Bill
+december_bills billed = bill (kwh billed 7) (kwh 200 3) (pos 2285) (pos 7542)
 
 -- the vulnerable member's December: 50 kWh by day are covered, which leaves 140 of the 390;
 -- 50 × 6.51 drams are 325.50, and 84 hundredths were kept
 abbrev vulnerable_december : Bill
-vulnerable_december = line (kwh 0 0) (kwh 50 0) (pos 326) (pos 2976)
+vulnerable_december = bill (kwh 0 0) (kwh 50 0) (pos 326) (pos 2976)
 
 -- the holder is paid 140 × 20.01 drams, which are 2,801.40: the debt goes down by 2,802, and 60 hundredths are kept
-abbrev paid_out : YearEnd
-paid_out = record { paid = kwh 140 0; drams = negsuc 2801; debt = negsuc 2801 }
+abbrev paid_bill : YearEnd
+paid_bill = record { paid = kwh 140 0; drams = negsuc 2801; debt = negsuc 2801 }
 
 -- the history of November up to the first drawing, its latest call first
-abbrev told_of_entries : List Event
-told_of_entries =
+abbrev entries_result : List Event
+entries_result =
     Entering (Reading (register 2 Night Consumed) 308 40) (Ok tt)
     ∷ Entering (Reading (register 2 Day Consumed) 308 330) (Ok tt)
     ∷ Entering (Correction (register 1 Day Consumed) (pos 10)) (Ok tt)
@@ -161,9 +161,9 @@ told_of_entries =
     ∷ Opening 7 10 1 members (Err Holder)
     ∷ []
 
--- that of the whole month, by the household's line
-abbrev told_of_november : Bill → List Event
-told_of_november household =
+-- that of the whole month, by the household's bill
+abbrev november_result : Bill → List Event
+november_result household =
     Issuing (stamp 10 7) 3 (Ok (nothing ∷ household ∷ vulnerable_november ∷ []))
     ∷ Checking (stamp 10 7) true
     ∷ Drawing 3 (Ok (stamp 10 7, nothing ∷ household ∷ vulnerable_november ∷ []))
@@ -171,23 +171,23 @@ told_of_november household =
     ∷ Entering (Reading (register 1 Night Consumed) 308 4) (Err Below)
     ∷ Entering (Payment 1 1000) (Ok tt)
     ∷ Drawing 3 (Ok (stamp 10 6, nothing ∷ unpaid ∷ vulnerable_november ∷ []))
-    ∷ told_of_entries
+    ∷ entries_result
 
--- the history up to the issue of December, by the household's line of each month
-abbrev told_of_december : (november december : Bill) → List Event
-told_of_december earlier later =
+-- the history up to the issue of December, by the household's bill of each month
+abbrev december_result : (november december : Bill) → List Event
+december_result earlier later =
     Issuing (stamp 11 4) 3 (Ok (nothing ∷ later ∷ vulnerable_december ∷ []))
     ∷ Issuing (stamp 10 7) 3 (Err Draft)
     ∷ Entering (Correction (register 2 Night Consumed) (negsuc 2)) (Ok tt)
     ∷ Entering (Reading (register 2 Day Consumed) 341 380) (Ok tt)
     ∷ Entering (Reading (register 1 Night Consumed) 341 15) (Ok tt)
     ∷ Entering (Reading (register 1 Day Consumed) 340 720) (Ok tt)
-    ∷ told_of_november earlier
+    ∷ november_result earlier
 
 -- the whole history
-abbrev pub told : (november december : Bill) → List Event
-told earlier later =
-    Closing (Ok paid_out) ∷ Withdrawing (stamp 10 6) ∷ told_of_december earlier later
+abbrev pub sample_result : (november december : Bill) → List Event
+sample_result earlier later =
+    Closing (Ok paid_bill) ∷ Withdrawing (stamp 10 6) ∷ december_result earlier later
 
 -- the group after the issue of December
 abbrev issued_group : Group
@@ -199,26 +199,26 @@ closed_group = (run line_order sample_prices (november ++ december)).1
 
 -- a member's debt and fraction as the book tells them
 abbrev account_at : (place : ℕ) → Group → Result Account BookRefusal
-account_at place group = made (λ member. member.account) (member_at place group)
+account_at place group = result_map (λ member. member.account) (member_at place group)
 
 -- the calls have just this history and leave just these figures, and it balances throughout.
--- With one kWh more or less on one line it does not: billed or covered, no kWh or no hundredth would be kept,
+-- With one kWh more or less on one bill it does not: billed or covered, no kWh or no hundredth would be kept,
 -- and with one kWh billed by day in December, where a kWh is carried by day, that issue would both bill and carry
 pub record SampleTells : Type 0 where
   pub history_is :
       (run line_order sample_prices (november ++ december)).0
-      ≡ told (in_november 510 33) (in_december 0)
+      ≡ sample_result (november_bills 510 33) (december_bills 0)
   pub carries_nothing : closed_group.carried ≡ kwh 0 0
   pub holder_is_owed : account_at 0 closed_group ≡ Ok (record { debt = negsuc 2801; fraction = 60 })
   pub household_owes : account_at 1 closed_group ≡ Ok (record { debt = pos 7542; fraction = 95 })
   pub vulnerable_owes : account_at 2 closed_group ≡ Ok (record { debt = pos 2976; fraction = 34 })
   pub balances :
-      BalancedThroughout line_order sample_prices
-      (told (in_november 510 33) (in_december 0)) closed_group
+      IsBalancedThroughout line_order sample_prices
+      (sample_result (november_bills 510 33) (december_bills 0)) closed_group
   pub no_kwh_more :
-      EnergyBalances Night (postings (told (in_november 510 34) (in_december 0))) closed_group → ⊥
+      EnergyBalances Night (accepted_calls (sample_result (november_bills 510 34) (december_bills 0))) closed_group → ⊥
   pub no_hundredth_more :
       MoneyBalances sample_prices 1
-      (postings (told (in_november 511 33) (in_december 0))) closed_group → ⊥
+      (accepted_calls (sample_result (november_bills 511 33) (december_bills 0))) closed_group → ⊥
   pub not_both :
-      NotBoth Day (told_of_december (in_november 510 33) (in_december 1)) issued_group → ⊥
+      DoesNotBillAndCarry Day (december_result (november_bills 510 33) (december_bills 1)) issued_group → ⊥

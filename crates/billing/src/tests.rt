@@ -4,12 +4,9 @@ use crate::cost::{cost_of, credit_of};
 use crate::net::{need_of, net_of, surplus_of};
 use crate::supply::Supply;
 use crate::zone::settle_zone;
-use ledger::zone::ByZone;
-use sharing::proportion::Proportion;
-use sharing::refusal::ShareRefusal;
-use tariff::class::Class;
-use tariff::fixed::FixedTariff;
-use tariff::prices::{ClassPrices, Prices};
+use ledger::ByZone;
+use sharing::{Proportion, ShareRefusal};
+use tariff::{Class, ClassPrices, FixedTariff, PriceTable};
 
 // A consumed tally, a delivered tally, the need and the surplus.
 const NETS: [(i32, i32, u64, u64); 7] = [
@@ -147,7 +144,7 @@ const PRICES: ClassPrices = ClassPrices {
 };
 
 const TARIFF: FixedTariff = FixedTariff {
-    prices: Prices {
+    prices: PriceTable {
         household: PRICES,
         other: PRICES,
         vulnerable: PRICES,

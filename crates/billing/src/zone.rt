@@ -1,18 +1,17 @@
 //! A zone's month: its pool is shared among the needs, and what is left is carried on.
 ghost use Rattle.std.specs.Prelude.{◌≡◌, ◌≤◌, length, IfOk, if◌then◌else◌, Ok, Err, nat_lt};
-ghost use Rattle.sharing.specs.Fair.{less};
+ghost use Rattle.sharing.specs.Law.{less};
 ghost use Rattle.sharing.specs.Limits.{most_places};
 ghost use Rattle.sharing.specs.declared.refusal.ShareRefusal.TheVariants.{Size};
-ghost use Rattle.billing.specs.Zones.{Balances, Settled, counted, needs_of, pool_of};
+ghost use Rattle.billing.specs.Zones.{Balances, SettlesZone, places_match, needs_of, pool_of};
 
 use crate::net::{need_of, surplus_of};
 use arrayvec::ArrayVec;
-use sharing::refusal::ShareRefusal;
-use sharing::rule::{MOST_POOL, PLACES, SharingRule, left_of};
+use sharing::{MOST_POOL, PLACES, ShareRefusal, SharingRule, left_of};
 
 // Whether there are 1 to 32 members, with a place to cover and a place to bill for each.
 fn is_counted(members: usize, to_cover: usize, to_bill: usize) -> bool
-    ensures { result ≡ counted members to_cover to_bill }
+    ensures { result ≡ places_match members to_cover to_bill }
 {
     members > 0 && members <= PLACES && to_cover == members && to_bill == members
 }
@@ -67,7 +66,7 @@ pub fn settle_zone<R: SharingRule>(
     covered: &mut [u64],
     billed: &mut [u64],
 ) -> Result<u64, ShareRefusal>
-    ensures settled { Settled (R.SharingRule.sharing rule.now) carried nets.now result
+    ensures settled { SettlesZone (R.SharingRule.sharing rule.now) carried nets.now result
         (record { covered = covered.old; billed = billed.old })
         (record { covered = covered.new; billed = billed.new }) }
     ensures balances { IfOk result

@@ -1,8 +1,8 @@
 -- The calls of a book by the phase that they ask for, and the month that each is for.
 use Rattle.std.specs.Prelude.{◌≡◌, ℕ, ◌≤◌, if◌then◌else◌, length, Ok, Err, Result}
-use Rattle.group.specs.Books.{unopened}
-use Rattle.group.specs.Drafts.{drawable}
-use Rattle.group.specs.Results.{and_then, made}
+use Rattle.group.specs.Books.{opening_phase}
+use Rattle.group.specs.Drafts.{drawing_month}
+use Rattle.group.specs.Results.{and_then, result_map}
 use Rattle.group.specs.Years.{open_year}
 use Rattle.group.specs.declared.group.Group.{Group}
 use Rattle.group.specs.declared.group.Phase.TheVariants as phase
@@ -13,10 +13,10 @@ use Rattle.book.specs.declared.call.Call.TheVariants.{Open, Draw, Issue, Close}
 
 -- the month that a call is for, or why the book is not in a phase for it
 abbrev pub month_for : Call → Group → Result ℕ BookRefusal
-month_for (Open start) group = made (λ done. start) (unopened group.phase)
-month_for (Draw places) group = drawable places group
+month_for (Open start) group = result_map (λ done. start) (opening_phase group.phase)
+month_for (Draw places) group = drawing_month places group
 month_for (Issue places current) group =
-    and_then (drawable places group) (λ month. if current then Ok month else Err refused.Draft)
+    and_then (drawing_month places group) (λ month. if current then Ok month else Err refused.Draft)
 month_for Close group = open_year group.phase
 
 -- the book is in the phase that a call asks for, with the month that it is for

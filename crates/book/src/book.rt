@@ -1,6 +1,6 @@
 //! The book, by its calls.
 ghost use Rattle.std.specs.Prelude.{◌≡◌, ◌≤◌, IfOk, length};
-ghost use Rattle.balance.specs.Balances.{BeginsBalanced, GoesOnBalanced, drawing_told, issue_told, lines_in};
+ghost use Rattle.balance.specs.Balances.{BeginsBalanced, GoesOnBalanced, drawing_answer, issue_answer, bills_in};
 ghost use Rattle.book.specs.Calls.{IsInPhaseFor, month_for};
 ghost use Rattle.balance.specs.Histories.{Opening, Entering, Drawing, Checking, Issuing, Withdrawing, Closing};
 ghost use Rattle.ledger.specs.Zones.{in_zone};
@@ -8,27 +8,22 @@ ghost use Rattle.group.specs.Changes.{AltersOne, EntersOne};
 ghost use Rattle.group.specs.Groups.{blank, member_at};
 ghost use Rattle.group.specs.Results.{Answers, Follows};
 ghost use Rattle.group.specs.declared.group.Phase.TheVariants.{Blank};
-ghost use Rattle.group.specs.Books.{SameTerms, after_opening};
+ghost use Rattle.group.specs.Books.{KeepsTerms, after_opening};
 ghost use Rattle.group.specs.Drafts.{after_drawing, after_issue, is_current};
 ghost use Rattle.group.specs.Entries.{after_entry};
 ghost use Rattle.group.specs.Sound.{most_carried, most_entries};
-ghost use Rattle.group.specs.Years.{closed, previewed};
+ghost use Rattle.group.specs.Years.{closing_result, preview_result};
 
 use crate::call::Call;
 use crate::draft::Draft;
-use crate::month::{issue_lines, write_lines};
+use crate::month::{issue_bills, write_bills};
 use crate::year::{post_year, year_end};
-use calendar::days::Month;
-use group::group::{Group, Phase};
-use group::member::{Member, OpeningRecord};
-use group::refusal::BookRefusal;
-use group::register::MeterReading;
-use ledger::bill::{Bill, YearEnd};
-use ledger::entry::Entry;
-use ledger::zone::Zone;
-use sharing::rule::SharingRule;
+use calendar::Month;
+use group::{BookRefusal, Group, Member, MeterReading, OpeningRecord, Phase};
+use ledger::{Bill, Entry, YearEnd, Zone};
+use sharing::SharingRule;
 use std::marker::Model;
-use tariff::tariff::Tariff;
+use tariff::Tariff;
 
 /// The settlement book of a group, settled by a sharing rule and a tariff.
 #[derive(Drop, Debug)]
@@ -40,13 +35,13 @@ pub struct Book<R, T> {
 
 impl<R, T> Model for Book<R, T> {
     ghost use Rattle.group.specs.Books.{BookState};
-    ghost use Rattle.group.specs.Sound.{Sound};
+    ghost use Rattle.group.specs.Sound.{IsSound};
 
     ghost Value = { BookState R T };
 
     ghost view = { λ book. record { rule = book.rule; tariff = book.tariff; group = book.group } };
 
-    ghost invariant = { λ book. Sound book.group };
+    ghost invariant = { λ book. IsSound book.group };
 }
 
 impl<R: SharingRule, T: Tariff> Book<R, T> {
@@ -118,7 +113,7 @@ impl<R: SharingRule, T: Tariff> Book<R, T> {
 
     /// The figures that the closing of the year would post, which alters nothing.
     pub fn year_end(&self) -> Result<YearEnd, BookRefusal>
-        ensures { result ≡ previewed (T.Tariff.price self.now.tariff) self.now.group }
+        ensures { result ≡ preview_result (T.Tariff.price self.now.tariff) self.now.group }
     {
         let december = self.month_for(Call::Close)?;
         let (figures, _) = year_end(&self.tariff, &self.group, december);
@@ -135,7 +130,7 @@ impl<R: SharingRule, T: Tariff> Book<R, T> {
     ) -> Result<(), BookRefusal>
         ensures group { Follows (after_opening number start holder records.now self.old.group)
             self.old.group result self.new.group }
-        ensures terms { SameTerms self.old self.new }
+        ensures terms { KeepsTerms self.old self.new }
         ensures balance { GoesOnBalanced R.SharingRule.sharing T.Tariff.price
             self.old (Opening number start holder records.now result) self.new }
     {
@@ -149,7 +144,7 @@ impl<R: SharingRule, T: Tariff> Book<R, T> {
         ensures group { Follows (after_entry entry self.old.group)
             self.old.group result self.new.group }
         ensures one { EntersOne entry self.old.group self.new.group }
-        ensures terms { SameTerms self.old self.new }
+        ensures terms { KeepsTerms self.old self.new }
         ensures balance { GoesOnBalanced R.SharingRule.sharing T.Tariff.price
             self.old (Entering entry result) self.new }
     {
@@ -161,7 +156,7 @@ impl<R: SharingRule, T: Tariff> Book<R, T> {
                     day,
                     value,
                 },
-            ) => self.group.read(
+            ) => self.group.enter_reading(
                 month,
                 MeterReading {
                     register,
@@ -178,7 +173,7 @@ impl<R: SharingRule, T: Tariff> Book<R, T> {
                     value,
                     start,
                 },
-            ) => self.group.read(
+            ) => self.group.enter_reading(
                 month,
                 MeterReading {
                     register,
@@ -188,28 +183,30 @@ impl<R: SharingRule, T: Tariff> Book<R, T> {
                 },
             ),
             (Phase::Open(_), Entry::Correction { register, quantity }) => {
-                self.group.correct(register, quantity)
+                self.group.enter_correction(register, quantity)
             }
-            (Phase::Open(_), Entry::Payment { place, drams }) => self.group.pay(place, drams),
+            (Phase::Open(_), Entry::Payment { place, drams }) => self
+                .group
+                .enter_payment(place, drams),
             (Phase::Blank | Phase::YearEnd(_) | Phase::Over, _) => Err(BookRefusal::NoMonth),
         }
     }
 
-    /// Writes the lines of the open month into a slice and gives a draft of them, which alters nothing in the book.
-    pub fn draw(&self, lines: &mut [Bill]) -> Result<Draft, BookRefusal>
+    /// Writes the bills of the open month into a slice and gives a draft of them, which alters nothing in the book.
+    pub fn draw(&self, bills: &mut [Bill]) -> Result<Draft, BookRefusal>
         ensures drawing { Answers
             (after_drawing (R.SharingRule.sharing self.now.rule) (T.Tariff.price self.now.tariff)
-            self.now.group lines.old)
-            lines.old result lines.new }
+            self.now.group bills.old)
+            bills.old result bills.new }
         ensures balance { GoesOnBalanced R.SharingRule.sharing T.Tariff.price
             self.now
-            (Drawing (length lines.old) (drawing_told result (lines_in self.now.group lines.new)))
+            (Drawing (length bills.old) (drawing_answer result (bills_in self.now.group bills.new)))
             self.now }
     {
         let month = self.month_for(Call::Draw {
-            places: lines.len(),
+            places: bills.len(),
         })?;
-        write_lines(&self.rule, &self.tariff, &self.group, month, lines);
+        write_bills(&self.rule, &self.tariff, &self.group, month, bills);
         Ok(Draft::of(&self.group, month))
     }
 
@@ -223,26 +220,26 @@ impl<R: SharingRule, T: Tariff> Book<R, T> {
         (draft, current)
     }
 
-    /// Takes the draft, posts the month's figures, writes the lines of a drawing made now into a slice, and opens what follows.
-    pub fn issue(&mut self, draft: Draft, lines: &mut [Bill]) -> Result<(), BookRefusal>
+    /// Takes the draft, posts the month's figures, writes the bills of a drawing made now into a slice, and opens what follows.
+    pub fn issue(&mut self, draft: Draft, bills: &mut [Bill]) -> Result<(), BookRefusal>
         ensures group { Follows
             (after_issue (R.SharingRule.sharing self.old.rule) (T.Tariff.price self.old.tariff)
-            draft (self.old.group, lines.old))
-            (self.old.group, lines.old) result (self.new.group, lines.new) }
-        ensures terms { SameTerms self.old self.new }
+            draft (self.old.group, bills.old))
+            (self.old.group, bills.old) result (self.new.group, bills.new) }
+        ensures terms { KeepsTerms self.old self.new }
         ensures balance { GoesOnBalanced R.SharingRule.sharing T.Tariff.price
             self.old
-            (Issuing draft (length lines.old)
-            (issue_told result (lines_in self.old.group lines.new)))
+            (Issuing draft (length bills.old)
+            (issue_answer result (bills_in self.old.group bills.new)))
             self.new }
     {
         let current = self.is_current(&draft);
         self.withdraw(draft);
         let month = self.month_for(Call::Issue {
-            places: lines.len(),
+            places: bills.len(),
             current,
         })?;
-        issue_lines(&self.rule, &self.tariff, &mut self.group, month, lines);
+        issue_bills(&self.rule, &self.tariff, &mut self.group, month, bills);
         Ok(())
     }
 
@@ -256,10 +253,10 @@ impl<R: SharingRule, T: Tariff> Book<R, T> {
 
     /// Closes the year: pays what each zone carries to the holder, and opens January.
     pub fn close_year(&mut self) -> Result<YearEnd, BookRefusal>
-        ensures group { Answers (closed (T.Tariff.price self.old.tariff) self.old.group)
+        ensures group { Answers (closing_result (T.Tariff.price self.old.tariff) self.old.group)
             self.old.group result self.new.group }
         ensures holder { AltersOne self.old.group.holder self.old.group self.new.group }
-        ensures terms { SameTerms self.old self.new }
+        ensures terms { KeepsTerms self.old self.new }
         ensures balance { GoesOnBalanced R.SharingRule.sharing T.Tariff.price
             self.old (Closing result) self.new }
     {
@@ -278,7 +275,7 @@ impl<R: SharingRule, T: Tariff> Book<R, T> {
         match (self.group.phase, call) {
             (Phase::Blank, Call::Open { start }) => Ok(start),
             (Phase::Open(_), Call::Draw { places } | Call::Issue { places, .. })
-                if places < members => { Err(BookRefusal::Lines) }
+                if places < members => { Err(BookRefusal::Bills) }
             (Phase::Open(month), Call::Draw { .. } | Call::Issue { current: true, .. }) => {
                 Ok(month)
             }

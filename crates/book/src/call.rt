@@ -1,6 +1,6 @@
 //! The calls that a book takes in one phase alone.
 
-use calendar::days::Month;
+use calendar::Month;
 
 // A call, with what the table of phases asks of it. An entry comes in as it is.
 #[derive(Clone, Copy, PartialEq, Eq, Debug)]

@@ -1,9 +1,9 @@
 //! Drafts of a month's bills.
 ghost use Rattle.std.specs.Prelude.{◌≡◌};
-ghost use Rattle.group.specs.Drafts.{is_of, stamped};
+ghost use Rattle.group.specs.Drafts.{is_of, stamp_of};
 
-use calendar::days::Month;
-use group::group::Group;
+use calendar::Month;
+use group::Group;
 use std::marker::Model;
 
 /// A draft of a month's bills. It can be neither copied nor dropped: only drawing makes one, and it ends in an issue or a withdrawal.
@@ -29,7 +29,7 @@ impl Model for Draft {
 impl Draft {
     // A draft of the group as it stands in a month.
     pub(crate) fn of(group: &Group, month: Month) -> Draft
-        ensures { result ≡ stamped month group.now }
+        ensures { result ≡ stamp_of month group.now }
     {
         Draft {
             number: group.number,

@@ -1,9 +1,12 @@
 //! The book that settles a group, and its drafts.
 #![tactic(auto)]
 
-pub mod book;
+mod book;
 mod call;
-pub mod draft;
+mod draft;
 mod month;
 mod posting;
 mod year;
+
+pub use book::Book;
+pub use draft::Draft;

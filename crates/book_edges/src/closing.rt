@@ -3,23 +3,14 @@ use crate::fixture::{
     MARK, OCTOBER, PlainBook, account, blank, consumed, correction, delivered, draw, enter,
     enter_all, number, open, payment, record, refused_drawing, seen,
 };
-use billing::account::Account;
-use book::book::Book;
-use calendar::days::Month;
-use group::group::Phase;
-use group::member::Member;
-use group::refusal::BookRefusal;
-use ledger::bill::{Bill, YearEnd};
-use ledger::zone::{ByZone, Zone};
-use sharing::proportion::Proportion;
-use sharing::rule::SharingRule;
+use billing::Account;
+use book::Book;
+use calendar::Month;
+use group::{BookRefusal, Member, Phase};
+use ledger::{Bill, ByZone, YearEnd, Zone};
+use sharing::{Proportion, SharingRule};
 use std::process::Abort;
-use tariff::class::Class;
-use tariff::fixed::FixedTariff;
-use tariff::prices::{ClassPrices, Prices};
-use tariff::row::Row;
-use tariff::schedule::Schedule;
-use tariff::tariff::Tariff;
+use tariff::{Class, ClassPrices, FixedTariff, PriceTable, Schedule, ScheduleRow, Tariff};
 
 // Energy costs far more than distribution, so that a debt shows whether a need was covered.
 fn class_prices(distribution: u32, day: u32, night: u32) -> ClassPrices {
@@ -35,7 +26,7 @@ fn class_prices(distribution: u32, day: u32, night: u32) -> ClassPrices {
 
 fn tariff() -> FixedTariff {
     FixedTariff {
-        prices: Prices {
+        prices: PriceTable {
             household: class_prices(10, 11, 13),
             other: class_prices(10, 20, 15),
             vulnerable: class_prices(7, 9, 4),
@@ -66,10 +57,10 @@ fn close<R: SharingRule, T: Tariff>(rt: &impl Abort, book: &mut Book<R, T>, figu
 
 // Issues the open month of a group of up to three members.
 fn issue<R: SharingRule, T: Tariff>(rt: &impl Abort, book: &mut Book<R, T>) -> [Bill; 3] {
-    let mut lines = [MARK; 3];
-    let draft = draw(rt, book, &mut lines);
-    assert_eq!(rt; book.issue(draft, &mut lines), Ok(()));
-    lines
+    let mut bills = [MARK; 3];
+    let draft = draw(rt, book, &mut bills);
+    assert_eq!(rt; book.issue(draft, &mut bills), Ok(()));
+    bills
 }
 
 // A book of one household whose first month is this one.
@@ -226,23 +217,23 @@ fn nothing_follows_the_last_year(rt: HostRuntime) {
     for entry in entries {
         enter(&rt, &mut book, entry, Some(11));
     }
-    let mut lines = [MARK; 2];
-    assert_eq!(rt; refused_drawing(&book, &mut lines), Some(11));
+    let mut bills = [MARK; 2];
+    assert_eq!(rt; refused_drawing(&book, &mut bills), Some(11));
     assert_eq!(rt; refused_drawing(&book, &mut []), Some(11));
-    assert_eq!(rt; number(book.issue(early, &mut lines)), Some(11));
+    assert_eq!(rt; number(book.issue(early, &mut bills)), Some(11));
     let again = [record(1, Class::Household, 0)];
     assert_eq!(rt; number(book.open(8, OCTOBER, 0, &again)), Some(1));
     assert_eq!(rt; seen(&book), before);
-    assert_eq!(rt; lines, [MARK; 2]);
+    assert_eq!(rt; bills, [MARK; 2]);
 }
 
-// Prices from a month on: of the year end for households, and of energy by day for others.
-fn row(first_month: Month, year_end: (u32, u32), energy: u32) -> Row {
+// PriceTable from a month on: of the year end for households, and of energy by day for others.
+fn row(first_month: Month, year_end: (u32, u32), energy: u32) -> ScheduleRow {
     let none = class_prices(0, 0, 0);
     let (day, night) = year_end;
-    Row {
+    ScheduleRow {
         first_month,
-        prices: Prices {
+        prices: PriceTable {
             household: class_prices(0, day, night),
             other: ClassPrices {
                 energy: ByZone {
@@ -279,11 +270,11 @@ fn december_prices_what_is_carried_and_january_what_comes(rt: HostRuntime) {
     close(&rt, &mut book, figures);
     // Nothing is carried that could cover them: 7 * 30.01 = 210.07.
     enter(&rt, &mut book, correction(1, Zone::Day, 7), None);
-    let line = Bill {
+    let bill = Bill {
         billed: ByZone { day: 7, night: 0 },
         covered: ByZone { day: 0, night: 0 },
         drams: 210,
         debt: 210,
     };
-    assert_eq!(rt; issue(&rt, &mut book)[1], line);
+    assert_eq!(rt; issue(&rt, &mut book)[1], bill);
 }

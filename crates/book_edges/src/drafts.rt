@@ -3,9 +3,8 @@ use crate::fixture::{
     MARK, PlainBook, blank, check, consumed, draw, enter, number, opened, payment, refused_drawing,
     seen,
 };
-use book::draft::Draft;
-use ledger::bill::Bill;
-use ledger::zone::{ByZone, Zone};
+use book::Draft;
+use ledger::{Bill, ByZone, Zone};
 use std::process::Abort;
 
 // The line of a member that consumed nothing.
@@ -34,12 +33,12 @@ const LINE: Bill = Bill {
 fn lines_go_to_the_front_of_the_slice(rt: HostRuntime) {
     let mut book = with_one_entry(&rt);
     let expected = [idle(0), LINE, idle(0), MARK, MARK];
-    let mut lines = [MARK; 5];
-    let draft = draw(&rt, &book, &mut lines);
-    assert_eq!(rt; lines, expected);
-    let mut lines = [MARK; 5];
-    assert_eq!(rt; book.issue(draft, &mut lines), Ok(()));
-    assert_eq!(rt; lines, expected);
+    let mut bills = [MARK; 5];
+    let draft = draw(&rt, &book, &mut bills);
+    assert_eq!(rt; bills, expected);
+    let mut bills = [MARK; 5];
+    assert_eq!(rt; book.issue(draft, &mut bills), Ok(()));
+    assert_eq!(rt; bills, expected);
 }
 
 // How many places the slice has, and the refusal's number, if there is one.
@@ -56,30 +55,30 @@ fn a_slice_has_a_place_for_each_member(rt: HostRuntime) {
     for (places, refusal) in PLACES.iter().copied() {
         let mut book = with_one_entry(&rt);
         let before = seen(&book);
-        let mut lines = [MARK; 4];
+        let mut bills = [MARK; 4];
         assert_eq!(rt;
-            refused_drawing(&book, &mut lines[..places.min(4)]),
+            refused_drawing(&book, &mut bills[..places.min(4)]),
             refusal
         );
         assert_eq!(rt; seen(&book), before);
-        assert_eq!(rt; lines == [MARK; 4], refusal.is_some());
+        assert_eq!(rt; bills == [MARK; 4], refusal.is_some());
         let draft = draw(&rt, &book, &mut [MARK; 3]);
-        let mut lines = [MARK; 4];
-        let answer = book.issue(draft, &mut lines[..places.min(4)]);
+        let mut bills = [MARK; 4];
+        let answer = book.issue(draft, &mut bills[..places.min(4)]);
         assert_eq!(rt; number(answer), refusal);
         assert_eq!(rt; seen(&book) == before, refusal.is_some());
-        assert_eq!(rt; lines == [MARK; 4], refusal.is_some());
+        assert_eq!(rt; bills == [MARK; 4], refusal.is_some());
     }
 }
 
 // Issues where that is to be refused by a number, and sees that book and slice are left as they were.
 fn refused_issue(rt: &impl Abort, book: &mut PlainBook, draft: Draft, places: usize, refusal: u8) {
     let before = seen(book);
-    let mut lines = [MARK; 4];
-    let answer = book.issue(draft, &mut lines[..places.min(4)]);
+    let mut bills = [MARK; 4];
+    let answer = book.issue(draft, &mut bills[..places.min(4)]);
     assert_eq!(rt; number(answer), Some(refusal));
     assert_eq!(rt; seen(book), before);
-    assert_eq!(rt; lines, [MARK; 4]);
+    assert_eq!(rt; bills, [MARK; 4]);
 }
 
 #[test]
@@ -98,10 +97,10 @@ fn an_entry_makes_a_draft_stale(rt: HostRuntime) {
     refused_issue(&rt, &mut book, second, 2, 20);
     let fresh = draw(&rt, &book, &mut [MARK; 3]);
     let fresh = check(&rt, &book, fresh, true);
-    let mut lines = [MARK; 3];
-    assert_eq!(rt; book.issue(fresh, &mut lines), Ok(()));
+    let mut bills = [MARK; 3];
+    assert_eq!(rt; book.issue(fresh, &mut bills), Ok(()));
     let paid = Bill { debt: 500, ..LINE };
-    assert_eq!(rt; lines, [idle(0), paid, idle(0)]);
+    assert_eq!(rt; bills, [idle(0), paid, idle(0)]);
 }
 
 #[test]
@@ -140,14 +139,14 @@ fn a_withdrawn_draft_alters_nothing(rt: HostRuntime) {
 #[test]
 fn a_blank_book_has_no_month_to_draw(rt: HostRuntime) {
     let mut book = blank();
-    let mut lines = [MARK; 3];
-    assert_eq!(rt; refused_drawing(&book, &mut lines), Some(11));
+    let mut bills = [MARK; 3];
+    assert_eq!(rt; refused_drawing(&book, &mut bills), Some(11));
     assert_eq!(rt; refused_drawing(&book, &mut []), Some(11));
-    assert_eq!(rt; lines, [MARK; 3]);
+    assert_eq!(rt; bills, [MARK; 3]);
     let other = opened(&rt, 0);
-    let draft = draw(&rt, &other, &mut lines);
+    let draft = draw(&rt, &other, &mut bills);
     let draft = check(&rt, &book, draft, false);
     refused_issue(&rt, &mut book, draft, 3, 11);
-    let draft = draw(&rt, &other, &mut lines);
+    let draft = draw(&rt, &other, &mut bills);
     refused_issue(&rt, &mut book, draft, 0, 11);
 }

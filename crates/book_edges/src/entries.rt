@@ -3,9 +3,8 @@ use crate::fixture::{
     PlainBook, account, blank, change, consumed, correction, delivered, enter, enter_all, number,
     opened, payment,
 };
-use billing::account::Account;
-use ledger::entry::{Entry, MemberRegister};
-use ledger::zone::{Flow, Zone};
+use billing::Account;
+use ledger::{Entry, Flow, MemberRegister, Zone};
 
 #[test]
 fn nothing_is_entered_before_the_opening(rt: HostRuntime) {

@@ -1,21 +1,12 @@
 //! A small group with its prices, and short names for what the tests do with it.
-use billing::account::Account;
-use book::book::Book;
-use book::draft::Draft;
-use calendar::days::{Day, Month};
-use group::group::Phase;
-use group::member::{Member, OpeningRecord};
-use group::refusal::BookRefusal;
-use ledger::bill::{Bill, YearEnd};
-use ledger::entry::{Entry, MemberRegister};
-use ledger::zone::{ByFlow, ByZone, Flow, Zone};
-use sharing::proportion::Proportion;
-use sharing::rule::SharingRule;
+use billing::Account;
+use book::{Book, Draft};
+use calendar::{Day, Month};
+use group::{BookRefusal, Member, OpeningRecord, Phase};
+use ledger::{Bill, ByFlow, ByZone, Entry, Flow, MemberRegister, YearEnd, Zone};
+use sharing::{Proportion, SharingRule};
 use std::process::Abort;
-use tariff::class::Class;
-use tariff::fixed::FixedTariff;
-use tariff::prices::{ClassPrices, Prices};
-use tariff::tariff::Tariff;
+use tariff::{Class, ClassPrices, FixedTariff, PriceTable, Tariff};
 
 /// October 2024, which begins on day 9040 and ends on day 9070.
 pub const OCTOBER: Month = 297;
@@ -62,7 +53,7 @@ const VULNERABLE: ClassPrices = ClassPrices {
 
 /// The prices of the tests.
 pub const TARIFF: FixedTariff = FixedTariff {
-    prices: Prices {
+    prices: PriceTable {
         household: HOUSEHOLD,
         other: OTHER,
         vulnerable: VULNERABLE,
@@ -226,14 +217,14 @@ pub(crate) fn enter_all<R: SharingRule, T: Tariff>(
 pub(crate) fn draw<R: SharingRule, T: Tariff>(
     rt: &impl Abort,
     book: &Book<R, T>,
-    lines: &mut [Bill],
+    bills: &mut [Bill],
 ) -> Draft {
-    book.draw(lines).expect(rt, "a drawing")
+    book.draw(bills).expect(rt, "a drawing")
 }
 
 // Draws where that is to be refused, and answers the refusal's number.
-pub(crate) fn refused_drawing(book: &PlainBook, lines: &mut [Bill]) -> Option<u8> {
-    match book.draw(lines) {
+pub(crate) fn refused_drawing(book: &PlainBook, bills: &mut [Bill]) -> Option<u8> {
+    match book.draw(bills) {
         Ok(draft) => {
             book.withdraw(draft);
             None

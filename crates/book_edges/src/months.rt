@@ -2,18 +2,13 @@
 use crate::fixture::{
     MARK, TARIFF, account, change, consumed, correction, delivered, draw, enter_all, open, payment,
 };
-use billing::account::Account;
-use book::book::Book;
-use group::group::Phase;
-use group::register::Register;
-use ledger::bill::Bill;
-use ledger::entry::{Entry, MemberRegister};
-use ledger::zone::{ByZone, Flow, Zone};
-use sharing::order::LineOrder;
-use sharing::proportion::Proportion;
-use sharing::rule::SharingRule;
+use billing::Account;
+use book::Book;
+use group::{Phase, Register};
+use ledger::{Bill, ByZone, Entry, Flow, MemberRegister, Zone};
+use sharing::{LineOrder, Proportion, SharingRule};
 use std::process::Abort;
-use tariff::fixed::FixedTariff;
+use tariff::FixedTariff;
 
 type FixedBook<R> = Book<R, FixedTariff>;
 
@@ -70,7 +65,7 @@ fn december<R: SharingRule>(rt: &impl Abort, book: &mut FixedBook<R>) {
 struct Outcome((u32, u32), (u32, u32), i64, (i64, u8));
 
 impl Outcome {
-    fn line(self) -> Bill {
+    fn bill(self) -> Bill {
         let Outcome(billed, covered, drams, (debt, _)) = self;
         Bill {
             billed: ByZone {
@@ -107,7 +102,7 @@ fn issue<R: SharingRule>(
     assert_eq!(rt; book.issue(draft, &mut issued), Ok(()));
     assert_eq!(rt; issued, drawn);
     for (place, outcome) in outcomes.iter().enumerate() {
-        assert_eq!(rt; issued.get(place).copied(), Some(outcome.line()));
+        assert_eq!(rt; issued.get(place).copied(), Some(outcome.bill()));
         assert_eq!(rt; account(book, place), Some(outcome.account()));
     }
     assert_eq!(rt; issued[3], MARK);

@@ -1,10 +1,9 @@
 //! Where an opening is refused, and what a taken one makes.
 use crate::fixture::{OCTOBER, blank, number, opened, record, seen};
-use calendar::days::Month;
-use group::group::Phase;
-use group::member::{Member, OpeningRecord};
-use ledger::zone::{ByFlow, ByZone};
-use tariff::class::Class;
+use calendar::Month;
+use group::{Member, OpeningRecord, Phase};
+use ledger::{ByFlow, ByZone};
+use tariff::Class;
 
 // How many records there are, the start month, the holder's place, the capacity of the first record and that of each other,
 // what every register stands at, and the refusal's number, if there is one.

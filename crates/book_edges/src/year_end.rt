@@ -3,12 +3,12 @@ use crate::fixture::{
     MARK, OCTOBER, PlainBook, blank, change, check, consumed, correction, draw, enter, number,
     payment, record, refused_drawing, seen,
 };
-use book::draft::Draft;
-use calendar::days::Month;
-use group::group::Phase;
-use ledger::zone::{Flow, Zone};
+use book::Draft;
+use calendar::Month;
+use group::Phase;
+use ledger::{Flow, Zone};
 use std::process::Abort;
-use tariff::class::Class;
+use tariff::Class;
 
 // A book of one member whose first month is this one.
 fn begun(rt: &impl Abort, start: Month) -> PlainBook {
@@ -69,14 +69,14 @@ fn nothing_is_entered_at_the_year_end(rt: HostRuntime) {
 fn nothing_is_drawn_or_issued_at_the_year_end(rt: HostRuntime) {
     let (mut book, early) = ended(&rt);
     let before = seen(&book);
-    let mut lines = [MARK; 2];
+    let mut bills = [MARK; 2];
     let early = check(&rt, &book, early, false);
-    assert_eq!(rt; number(book.issue(early, &mut lines)), Some(11));
-    assert_eq!(rt; refused_drawing(&book, &mut lines), Some(11));
+    assert_eq!(rt; number(book.issue(early, &mut bills)), Some(11));
+    assert_eq!(rt; refused_drawing(&book, &mut bills), Some(11));
     // The slice would be too short as well.
     assert_eq!(rt; refused_drawing(&book, &mut []), Some(11));
     let again = [record(1, Class::Household, 0)];
     assert_eq!(rt; number(book.open(8, OCTOBER, 0, &again)), Some(1));
     assert_eq!(rt; seen(&book), before);
-    assert_eq!(rt; lines, [MARK; 2]);
+    assert_eq!(rt; bills, [MARK; 2]);
 }

@@ -5,7 +5,7 @@ use Rattle.std.proofs.lemmas.List.{get_or-drop}
 use Rattle.std.specs.Bool.{then_some}
 use Rattle.std.specs.List.Sorted.{IsNonDecreasing, IsPartitionPoint}
 use Rattle.calendar.proofs.Months.{first_mono, last_first, only_month}
-use Rattle.calendar.specs.Dates.{MonthOf}
+use Rattle.calendar.specs.Dates.{IsMonthOf}
 use Rattle.calendar.specs.Gregorian.{first_day, length_of}
 use Rattle.calendar.specs.declared.table.TheConstants.{FIRST_DAYS}
 
@@ -48,13 +48,13 @@ module _ (day month : ℕ) (most : month ≤ 1200) (split : IsPartitionPoint (λ
       (λ later. let before : month - 1 + 1 ≡ month = omega arith in omega (arith, ap first_day before, later_is (month - 1) 0 (omega arith), leb-true _ _ (split.0 (month - 1) 0 (omega arith) (omega arith))))
       (cases_lt month 1)
 
-  last_begun : day ≤ 36524 → MonthOf day (Some month)
+  last_begun : day ≤ 36524 → IsMonthOf day (Some month)
   last_begun early =
       let few : month ≤ 1199 = ⊎_elim (λ late. absurd (omega (arith, begun, first_mono 1200 month (omega arith), last_first))) (λ few. few) (cases_lt 1199 month) in
       let ahead : day < first_day (month + 1) = omega (arith, later_is month 0 (omega arith), leb-false _ _ (split.1 month 0 (omega arith) (omega arith))) in
       (few, begun, ahead, only_month month day begun ahead)
 
-  pub month_found : MonthOf day (then_some (leb day 36524) month)
+  pub month_found : IsMonthOf day (then_some (leb day 36524) month)
   month_found =
       ⊎_elim
       (λ past. rw (lt-leb day 36524 past) past)

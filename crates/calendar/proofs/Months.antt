@@ -2,13 +2,13 @@
 use Rattle.std.proofs.Common.{◌≡◌, ℕ, zero, suc, ◌+◌, ◌-◌, ◌<◌, ◌≤◌, true, cond, get_or, refl, ap, ⊎_elim, add-zero, add-suc, add-one, arith}
 use Rattle.std.proofs.lemmas.List.Elements.{All-from_recursion, All-get_or}
 use Rattle.std.proofs.lemmas.Bool.{and_parts, cases_order, cond_both, leb-true, ltb-true}
-use Rattle.calendar.specs.Gregorian.{first_day, leap, length_of, lengths, lies_in}
+use Rattle.calendar.specs.Gregorian.{first_day, is_leap, length_of, lengths, lies_in}
 
 abbrev Usual : ℕ → Type 0
 Usual n = (28 ≤ n) × (n ≤ 31)
 
-february : (year : ℕ) → Usual (cond (leap year) 29 28)
-february year = cond_both (leap year) 29 28 Usual (λ _. (omega arith, omega arith)) (λ _. (omega arith, omega arith))
+february : (year : ℕ) → Usual (cond (is_leap year) 29 28)
+february year = cond_both (is_leap year) 29 28 Usual (λ _. (omega arith, omega arith)) (λ _. (omega arith, omega arith))
 
 -- a month has 28 to 31 days
 pub usual_length : (year place : ℕ) → place < 12 → Usual (get_or (lengths year) place 0)

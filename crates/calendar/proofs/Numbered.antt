@@ -2,7 +2,7 @@
 use Rattle.std.proofs.Common.{◌≡◌, ℕ, ◌+◌, ◌-◌, ◌/◌, ◌%◌, ◌<◌, ◌≤◌, true, get_or, Some, None, Option, sym, ap, ◌∙◌, ap₂, arith, MatchOption}
 use Rattle.std.proofs.lemmas.Bool.Decides.{nat_tests}
 use Rattle.std.specs.Option.{SomeIff}
-use Rattle.calendar.specs.Dates.{Agree, DateOf, date_in, day_number, day_of_date, is_date, month_of_date}
+use Rattle.calendar.specs.Dates.{Agree, IsDateOf, date_in, day_number, day_of_date, is_date, month_of_date}
 use Rattle.calendar.specs.Gregorian.{first_day, length_of, lengths}
 use Rattle.calendar.specs.declared.date.Date.{Date}
 use Rattle.calendar.proofs.Months.{first_mono, first_next, last_first, one_month}
@@ -88,10 +88,10 @@ same_date d e day ld le =
     let days : d.day ≡ e.day = omega (arith, first, ld.number, le.number, rd.day_from, re.day_from) in
     λ i. record { year = years i; month = places i; day = days i }
 
-pub one_date : (d : Date) (day : ℕ) → day_of_date d ≡ Some day → DateOf day (Some d)
+pub one_date : (d : Date) (day : ℕ) → day_of_date d ≡ Some day → IsDateOf day (Some d)
 one_date d day is = (is, λ e of. same_date e d day (lies e day of) (lies d day is))
 
-pub date_found : (month day : ℕ) → month ≤ 1199 → first_day month ≤ day → day < first_day (month + 1) → DateOf day (Some (date_in month (day - first_day month)))
+pub date_found : (month day : ℕ) → month ≤ 1199 → first_day month ≤ day → day < first_day (month + 1) → IsDateOf day (Some (date_in month (day - first_day month)))
 date_found month day few begun ahead =
     let d = date_in month (day - first_day month) in
     let same : month_of_date d ≡ month = omega arith in
@@ -105,10 +105,10 @@ agree = record {
   date_day_date = λ d day r is. back d day is r;
 }
   where
-    there : (day : ℕ) (r : Option Date) → day ≤ 36524 → DateOf day r → MatchOption r ⊥ (λ d. day_of_date d ≡ Some day)
+    there : (day : ℕ) (r : Option Date) → day ≤ 36524 → IsDateOf day r → MatchOption r ⊥ (λ d. day_of_date d ≡ Some day)
     there day None early of = omega (arith, of.0)
     there day (Some d) early of = of.0
 
-    back : (d : Date) (day : ℕ) → day_of_date d ≡ Some day → (r : Option Date) → DateOf day r → r ≡ Some d
+    back : (d : Date) (day : ℕ) → day_of_date d ≡ Some day → (r : Option Date) → IsDateOf day r → r ≡ Some d
     back d day is None none = absurd (none.1 d is)
     back d day is (Some e) of = ap Some (sym (of.1 d is))

@@ -16,8 +16,8 @@ abbrev pub month_of_date : Date → ℕ
 month_of_date d = (d.year - 2000) * 12 + (d.month - 1)
 
 -- the month of a year, counted from January 2000, where there is one from 2000 to 2099
-abbrev pub MonthIn : (year month : ℕ) → Option ℕ → Type 0
-MonthIn year month r =
+abbrev pub IsMonthIn : (year month : ℕ) → Option ℕ → Type 0
+IsMonthIn year month r =
     SomeIff r ((2000 ≤ year) × (year ≤ 2099) × (1 ≤ month) × (month ≤ 12))
     ((year - 2000) * 12 + (month - 1))
 
@@ -46,21 +46,21 @@ unfoldable pub date_of_day : ℕ → Date
 date_of_day day = date_after last_month 0 day
 
 -- the one month in which the day lies, or none where it lies past the last
-abbrev pub MonthOf : ℕ → Option ℕ → Type 0
-MonthOf day r =
+abbrev pub IsMonthOf : ℕ → Option ℕ → Type 0
+IsMonthOf day r =
     MatchOption r (last_day < day)
     (λ month. (month ≤ last_month) × (first_day month ≤ day) × (day < first_day (month + 1))
     × ((m : ℕ) → lies_in day m ≡ true → m ≡ month))
 
 -- the one date that is this day, or none past the last day, which no date is
-abbrev pub DateOf : ℕ → Option Date → Type 0
-DateOf day r =
+abbrev pub IsDateOf : ℕ → Option Date → Type 0
+IsDateOf day r =
     MatchOption r ((last_day < day) × ((e : Date) → day_of_date e ≢ Some day))
     (λ d. (day_of_date d ≡ Some day) × ((e : Date) → day_of_date e ≡ Some day → e ≡ d))
 
 -- from a day to its date and back is the same day, and from a date to its day and back the same date
 pub record Agree : Type 0 where
-  pub day_date_day : (day : ℕ) (r : Option Date) → day ≤ last_day → DateOf day r
+  pub day_date_day : (day : ℕ) (r : Option Date) → day ≤ last_day → IsDateOf day r
       → MatchOption r ⊥ (λ d. day_of_date d ≡ Some day)
-  pub date_day_date : (d : Date) (day : ℕ) (r : Option Date) → day_of_date d ≡ Some day → DateOf day r
+  pub date_day_date : (d : Date) (day : ℕ) (r : Option Date) → day_of_date d ≡ Some day → IsDateOf day r
       → r ≡ Some d

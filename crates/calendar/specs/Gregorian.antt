@@ -2,13 +2,13 @@
 use Rattle.std.specs.Prelude.{ℕ, zero, suc, ◌+◌, ◌/◌, ◌%◌, Bool, not, ◌&&◌, ◌||◌, if◌then◌else◌, List, [], ◌∷◌, ◌==◌, nat_le, nat_lt, slice_index}
 
 -- every fourth year is a leap year, but of the hundredth years only every fourth
-abbrev pub leap : ℕ → Bool
-leap year = year % 4 == 0 && (not (year % 100 == 0) || year % 400 == 0)
+abbrev pub is_leap : ℕ → Bool
+is_leap year = year % 4 == 0 && (not (year % 100 == 0) || year % 400 == 0)
 
 -- how many days the months of a year have, from January to December
 abbrev pub lengths : ℕ → List ℕ
 lengths year =
-    31 ∷ (if leap year then 29 else 28) ∷ 31 ∷ 30 ∷ 31 ∷ 30 ∷ 31 ∷ 31 ∷ 30 ∷ 31 ∷ 30 ∷ 31 ∷ []
+    31 ∷ (if is_leap year then 29 else 28) ∷ 31 ∷ 30 ∷ 31 ∷ 30 ∷ 31 ∷ 31 ∷ 30 ∷ 31 ∷ 30 ∷ 31 ∷ []
 
 -- the year of a month
 abbrev pub year_of : ℕ → ℕ

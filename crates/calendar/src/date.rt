@@ -1,7 +1,7 @@
 //! Dates by year, month and day of the month.
 ghost use Rattle.std.specs.Prelude.{◌≡◌, ◌+◌, ◌-◌, ◌<◌, ◌≤◌, if◌then◌else◌, Some, None, nat_le};
 ghost use Rattle.std.specs.Option.{SomeIff};
-ghost use Rattle.calendar.specs.Dates.{Agree, DateOf, MonthIn, date_in, date_of_day, day_of_date};
+ghost use Rattle.calendar.specs.Dates.{Agree, IsDateOf, IsMonthIn, date_in, date_of_day, day_of_date};
 ghost use Rattle.calendar.specs.Gregorian.{first_day, last_day, last_month, length_of};
 
 use crate::days::{Day, Month, first, month_of};
@@ -28,7 +28,7 @@ pub struct Date {
 
 /// The month of a year, January being 1, or none where there is no such month from 2000 to 2099.
 pub fn month_in(year: u16, month: u8) -> Option<Month>
-    ensures { MonthIn year month result }
+    ensures { IsMonthIn year month result }
 {
     let month = month as Month;
     if year < FIRST_YEAR || year > LAST_YEAR || month == 0 || month > MONTHS {
@@ -71,7 +71,7 @@ fn day_in(month: Month, day: u8) -> Option<Day>
 
 /// The date of a day, or none past the last day; dates and days agree, there and back.
 pub fn date_of(day: Day) -> Option<Date>
-    ensures date { DateOf day result }
+    ensures date { IsDateOf day result }
     ensures named { result ≡ (if nat_le day last_day then Some (date_of_day day) else None) }
     ensures agree { Agree }
 {

@@ -1,6 +1,6 @@
 //! Days and months by their numbers: day 0 is 1 January 2000, and month 0 is January 2000.
 ghost use Rattle.std.specs.Prelude.{◌≡◌, ◌+◌, ◌≤◌, ◌↔◌, IsTrue, if◌then◌else◌, Some, None, nat_le};
-ghost use Rattle.calendar.specs.Dates.{MonthOf};
+ghost use Rattle.calendar.specs.Dates.{IsMonthOf};
 ghost use Rattle.calendar.specs.Gregorian.{first_day, last_month, lies_in};
 
 use crate::table::FIRST_DAYS;
@@ -41,7 +41,7 @@ pub fn is_in(day: Day, month: Month) -> bool
 
 /// The month in which a day lies, or none past the last day.
 pub fn month_of(day: Day) -> Option<Month>
-    ensures { MonthOf day result }
+    ensures { IsMonthOf day result }
 {
     // January 2000 has begun on each day, so the month's number is how many later months have.
     let month = FIRST_DAYS[1..].partition_point(

@@ -4,14 +4,14 @@ use Rattle.cells.proofs.Overwriting.{overwritten_more}
 use Rattle.cells.specs.Cells.{cell_text}
 use Rattle.cells.specs.declared.rows.Cell.{Cell}
 use Rattle.cells.specs.declared.rows.Cell.TheVariants.{Missing}
-use Rattle.fields.specs.Rows.{line_of, row}
+use Rattle.fields.specs.Rows.{line_of, texts_row}
 use Rattle.std.proofs.lemmas.List.{length-append, length-take-le, length_push, take_all, take_more}
 use Rattle.std.proofs.lemmas.List.Sums.{sum_by-cons, sum_by_more_le}
 use Rattle.std.specs.List.{sum_by}
 
 -- the cells parted by commas
 abbrev pub joined : List Cell → List ℕ
-joined cells = row (map cell_text cells)
+joined cells = texts_row (map cell_text cells)
 
 -- how many bytes the cells take, each with the comma or the line feed after it
 abbrev pub marked_length : List Cell → ℕ

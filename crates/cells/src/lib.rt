@@ -1,5 +1,7 @@
 //! Lines of cells, written into a slice: words, numbers, dates and months parted by commas.
 #![tactic(auto)]
 
-pub mod rows;
+mod rows;
 mod texts;
+
+pub use rows::{Cell, write_cell, write_row};

@@ -1,13 +1,12 @@
 //! Writes a line of cells into a slice.
 ghost use Rattle.std.specs.Prelude.{◌≡◌, ◌+◌, ◌^◌, ◌<◌, ◌≤◌, ◌↔◌, map, length, IsTrue};
-ghost use Rattle.cells.specs.Cells.{Put, Written, cell_text};
+ghost use Rattle.cells.specs.Cells.{Puts, WritesWhereItFits, cell_text};
 ghost use Rattle.fields.specs.Rows.{line_of};
 ghost use Rattle.std.specs.Option.{SomeIff};
 
 use crate::texts::Buffer;
-use calendar::date::Date;
-use calendar::days::Month;
-use fields::marks::{COMMA, LINE_FEED};
+use calendar::{Date, Month};
+use fields::{COMMA, LINE_FEED};
 
 /// What stands between two commas of a line that is to be written.
 #[derive(Clone, Copy, Debug)]
@@ -29,7 +28,7 @@ pub enum Cell<'a> {
 /// Writes the cells as a line into the slice from `at` on, and answers the place after it; or none, with the slice as it was, exactly where there is no room.
 #[tactic(auto, using(crate::proofs::Joining::joining))]
 pub fn write_row(cells: &[Cell<'_>], out: &mut [u8], at: usize) -> Option<usize>
-    ensures { Written out.old at (line_of (map cell_text cells.now)) out.new result }
+    ensures { WritesWhereItFits out.old at (line_of (map cell_text cells.now)) out.new result }
 {
     // A refusal leaves the slice as it was, so the room is looked at before the first byte is written.
     if !has_room(out, at, row_length(cells)?) {
@@ -48,7 +47,7 @@ pub fn write_row(cells: &[Cell<'_>], out: &mut [u8], at: usize) -> Option<usize>
 
 /// Writes a cell into the slice from `at` on, and answers the place after it; or none, with the slice as it was, exactly where there is no room.
 pub fn write_cell(cell: Cell<'_>, out: &mut [u8], at: usize) -> Option<usize>
-    ensures { Written out.old at (cell_text cell.entry) out.new result }
+    ensures { WritesWhereItFits out.old at (cell_text cell.entry) out.new result }
 {
     let mut buffer = Buffer::new();
     let text = buffer.text(cell);
@@ -86,7 +85,7 @@ fn row_length(cells: &[Cell<'_>]) -> Option<usize>
 // Writes the text. A struct of the slice and the place would be no plainer: each contract would say besides that it holds the same slice.
 fn put(text: &[u8], out: &mut [u8], at: usize) -> usize
     requires { at + length text.now ≤ length out.old }
-    ensures { Put out.old at text.now out.new result }
+    ensures { Puts out.old at text.now out.new result }
 {
     let end = at + text.len();
     out[at..end].copy_from_slice(text);

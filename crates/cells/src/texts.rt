@@ -1,12 +1,11 @@
 //! Makes the text of a cell.
 ghost use Rattle.std.specs.Prelude.{◌≡◌, ◌+◌, ◌%◌, ◌∷◌, []};
 ghost use Rattle.cells.specs.Cells.{cell_text};
-ghost use Rattle.fields.specs.Texts.{date_text, four, two};
+ghost use Rattle.fields.specs.Texts.{date_text, four_digits, two_digits};
 
 use crate::rows::Cell;
-use calendar::date::{Date, first_date_of};
-use fields::marks::HYPHEN;
-use fields::numbers::ZERO;
+use calendar::{Date, first_date_of};
+use fields::{HYPHEN, ZERO};
 
 const DATE_LENGTH: usize = 10;
 
@@ -61,7 +60,7 @@ fn date_bytes(date: Date) -> [u8; DATE_LENGTH]
 
 // The last four digits of a number.
 fn four(n: u16) -> [u8; 4]
-    ensures { result ≡ four n }
+    ensures { result ≡ four_digits n }
 {
     let [thousands, hundreds] = two(n / 100);
     let [tens, ones] = two(n);
@@ -70,7 +69,7 @@ fn four(n: u16) -> [u8; 4]
 
 // The last two digits of a number.
 fn two(n: u16) -> [u8; 2]
-    ensures { result ≡ two n }
+    ensures { result ≡ two_digits n }
 {
     [digit(n / 10), digit(n)]
 }

@@ -7,7 +7,7 @@ use Rattle.std.proofs.lemmas.List.Splits.{join_with_byte-slice_split, length-sli
 use Rattle.std.proofs.lemmas.List.Elements.{All-cons, All-get_or, All-head, All-nil, All-push, All-tail}
 use Rattle.fields.proofs.Lacking.{lacks_append, lacks_one}
 use Rattle.fields.specs.Cuts.{Lacks}
-use Rattle.comparison.specs.Rows.{Short, Starts, FieldRead, RowOf, NoRow, row, front_of}
+use Rattle.comparison.specs.Rows.{HasTenDigits, Starts, ReadsField, IsRowOf, ReadsNoRow, numbers_row, front_of}
 use Rattle.comparison.specs.declared.problem.Problem.{Problem}
 use Rattle.comparison.specs.declared.problem.Problem.TheVariants.{At, Memory, OfParts, OfRule}
 
@@ -32,7 +32,7 @@ fields_lack (b ∷ bs) =
         All-cons (Lacks 44) (b ∷ part) parts (lacks_append 44 (b ∷ []) part own (All-head (Lacks 44) part parts lack)) (All-tail (Lacks 44) part parts lack)
 
 -- numbers as fields, with commas between them
-joined_row : (ns : List ℕ) → join_with_byte 44 (map decimal ns) ≡ row ns
+joined_row : (ns : List ℕ) → join_with_byte 44 (map decimal ns) ≡ numbers_row ns
 joined_row [] = refl
 joined_row (n ∷ []) = refl
 joined_row (n ∷ m ∷ ns) = ap (λ l. decimal n ++ (44 ∷ l)) (joined_row (m ∷ ns))
@@ -52,10 +52,10 @@ starts field (other ∷ others) lacks = (lacks, inr (join_with_byte 44 (other �
 -- the line so far: its fields are these numbers, as far as they were read
 pub record Sofar (most : ℕ) (bs : List ℕ) (read : ℕ) (before : List ℕ) : Type 0 where
   pub fields : take read (fields_of bs) ≡ map decimal before
-  pub short : All Short before
+  pub short : All HasTenDigits before
   pub few : length before ≤ most
 
-pub all_fields : (most : ℕ) (bs found : List ℕ) (read : ℕ) → Sofar most bs read found → length (fields_of bs) ≤ read → RowOf most bs found
+pub all_fields : (most : ℕ) (bs found : List ℕ) (read : ℕ) → Sofar most bs read found → length (fields_of bs) ≤ read → IsRowOf most bs found
 all_fields most bs found read so_far done =
     let fields : fields_of bs ≡ map decimal found = sym (take_all read (fields_of bs) done) ∙ so_far.fields in
     record {
@@ -66,13 +66,13 @@ all_fields most bs found read so_far done =
     }
 
 module _ (line most : ℕ) (bs before field : List ℕ) (read : ℕ) (so_far : Sofar most bs read before) (within : read < length (fields_of bs)) (is : field ≡ get_or (fields_of bs) read field) (exit : List ℕ) where
-  pub field_more : FieldRead line most before field (Ok tt) exit → Sofar most bs (read + 1) exit
+  pub field_more : ReadsField line most before field (Ok tt) exit → Sofar most bs (read + 1) exit
   field_more one =
       let n = one.1.0 in
       let fact = one.1.1 in
       subst (Sofar most bs (read + 1)) (sym fact.2) (record {
         fields = take_more (fields_of bs) read field within ∙ ap₂ (λ l f. l ++ (f ∷ [])) so_far.fields (sym is ∙ fact.1) ∙ sym (map-append decimal before (n ∷ []));
-        short = All-push Short before n so_far.short fact.0;
+        short = All-push HasTenDigits before n so_far.short fact.0;
         few = omega (arith, length_push before n, one.0);
       })
 
@@ -80,7 +80,7 @@ module _ (line most : ℕ) (bs before field : List ℕ) (read : ℕ) (so_far : S
   others : drop read (fields_of bs) ≡ field ∷ drop (read + 1) (fields_of bs)
   others = drop_more (fields_of bs) read field within ∙ ap (λ f. f ∷ drop (read + 1) (fields_of bs)) (sym is)
 
-  pub field_fault : (e : Problem) → FieldRead line most before field (Err e) exit → NoRow line most bs e
+  pub field_fault : (e : Problem) → ReadsField line most before field (Err e) exit → ReadsNoRow line most bs e
   field_fault (OfRule refusal) one = one
   field_fault (OfParts refusal) one = one
   field_fault Memory one = tt

@@ -9,8 +9,8 @@ use Rattle.comparison.specs.declared.problem.Problem.{Problem}
 use Rattle.comparison.specs.declared.problem.Problem.TheVariants.{At, Memory, OfParts, OfRule}
 
 -- the parts of 32 places, of which those that were not given are 0
-abbrev pub padded : List ℕ → List ℕ
-padded parts = parts ++ replicate (most_places - length parts) 0
+abbrev pub padded_parts : List ℕ → List ℕ
+padded_parts parts = parts ++ replicate (most_places - length parts) 0
 
 -- these shares, and what they leave of the pool
 pub record Holds (pool : ℕ) (shares : List ℕ) (column : Column) : Type 0 where
@@ -18,31 +18,31 @@ pub record Holds (pool : ℕ) (shares : List ℕ) (column : Column) : Type 0 whe
   pub left_is : column.left ≡ pool - sum shares
 
 -- why there is no column of a rule
-abbrev NoColumn : ℕ → List ℕ → Problem → Type 0
-NoColumn pool needs (At fault) = ⊥
-NoColumn pool needs (OfRule refusal) = answer pool needs (length needs) ≡ Err refusal
-NoColumn pool needs (OfParts refusal) = ⊥
-NoColumn pool needs Memory = Unit {0}
+abbrev RefusesColumn : ℕ → List ℕ → Problem → Type 0
+RefusesColumn pool needs (At fault) = ⊥
+RefusesColumn pool needs (OfRule refusal) = answer pool needs (length needs) ≡ Err refusal
+RefusesColumn pool needs (OfParts refusal) = ⊥
+RefusesColumn pool needs Memory = Unit {0}
 
 -- the column of a rule, or the refusal of its call
-abbrev pub ColumnMade : (ℕ → List ℕ → List ℕ) → ℕ → List ℕ → Result Column Problem → Type 0
-ColumnMade rule pool needs (Ok column) = (answer pool needs (length needs) ≡ Ok tt) × Holds pool (rule pool needs) column
-ColumnMade rule pool needs (Err why) = NoColumn pool needs why
+abbrev pub MakesColumn : (ℕ → List ℕ → List ℕ) → ℕ → List ℕ → Result Column Problem → Type 0
+MakesColumn rule pool needs (Ok column) = (answer pool needs (length needs) ≡ Ok tt) × Holds pool (rule pool needs) column
+MakesColumn rule pool needs (Err why) = RefusesColumn pool needs why
 
 -- why there is no column of a layer of parts
-abbrev NoPartsColumn : List ℕ → ℕ → List ℕ → Problem → Type 0
-NoPartsColumn parts pool needs (At fault) = ⊥
-NoPartsColumn parts pool needs (OfRule refusal) = answer pool needs (length needs) ≡ Err refusal
-NoPartsColumn parts pool needs (OfParts refusal) = parts_answer parts ≡ Err refusal
-NoPartsColumn parts pool needs Memory = Unit {0}
+abbrev RefusesPartsColumn : List ℕ → ℕ → List ℕ → Problem → Type 0
+RefusesPartsColumn parts pool needs (At fault) = ⊥
+RefusesPartsColumn parts pool needs (OfRule refusal) = answer pool needs (length needs) ≡ Err refusal
+RefusesPartsColumn parts pool needs (OfParts refusal) = parts_answer parts ≡ Err refusal
+RefusesPartsColumn parts pool needs Memory = Unit {0}
 
 -- the column of a layer of parts over a rule, or the refusal of the parts or of the layer's call
-abbrev pub PartsColumnMade : (ℕ → List ℕ → List ℕ) → List ℕ → ℕ → List ℕ → Result Column Problem → Type 0
-PartsColumnMade below parts pool needs (Ok column) = (parts_answer parts ≡ Ok tt) × Holds pool (with_parts below parts pool needs) column
-PartsColumnMade below parts pool needs (Err why) = NoPartsColumn parts pool needs why
+abbrev pub MakesPartsColumn : (ℕ → List ℕ → List ℕ) → List ℕ → ℕ → List ℕ → Result Column Problem → Type 0
+MakesPartsColumn below parts pool needs (Ok column) = (parts_answer parts ≡ Ok tt) × Holds pool (with_parts below parts pool needs) column
+MakesPartsColumn below parts pool needs (Err why) = RefusesPartsColumn parts pool needs why
 
 -- nothing is refused, and these are the four columns, those of the layers with these parts
-pub record Tabled (pool : ℕ) (needs parts : List ℕ) (c : Comparison) : Type 0 where
+pub record MakesTable (pool : ℕ) (needs parts : List ℕ) (c : Comparison) : Type 0 where
   pub shared : answer pool needs (length needs) ≡ Ok tt
   pub parted : parts_answer parts ≡ Ok tt
   pub by_line_order : Holds pool (line_order pool needs) c.line_order
@@ -51,13 +51,13 @@ pub record Tabled (pool : ℕ) (needs parts : List ℕ) (c : Comparison) : Type 
   pub by_parts_over_proportion : Holds pool (with_parts proportion parts pool needs) c.parts_over_proportion
 
 -- why there is no table: the rules' own refusals come before that of the parts
-abbrev pub Untabled : ℕ → List ℕ → List ℕ → Problem → Type 0
-Untabled pool needs parts (At fault) = ⊥
-Untabled pool needs parts (OfRule refusal) = answer pool needs (length needs) ≡ Err refusal
-Untabled pool needs parts (OfParts refusal) = (answer pool needs (length needs) ≡ Ok tt) × (parts_answer parts ≡ Err refusal)
-Untabled pool needs parts Memory = Unit {0}
+abbrev pub RefusesTable : ℕ → List ℕ → List ℕ → Problem → Type 0
+RefusesTable pool needs parts (At fault) = ⊥
+RefusesTable pool needs parts (OfRule refusal) = answer pool needs (length needs) ≡ Err refusal
+RefusesTable pool needs parts (OfParts refusal) = (answer pool needs (length needs) ≡ Ok tt) × (parts_answer parts ≡ Err refusal)
+RefusesTable pool needs parts Memory = Unit {0}
 
 -- what a comparison answers
-abbrev pub Compared : ℕ → List ℕ → List ℕ → Result Comparison Problem → Type 0
-Compared pool needs parts (Ok c) = Tabled pool needs parts c
-Compared pool needs parts (Err why) = Untabled pool needs parts why
+abbrev pub Compares : ℕ → List ℕ → List ℕ → Result Comparison Problem → Type 0
+Compares pool needs parts (Ok c) = MakesTable pool needs parts c
+Compares pool needs parts (Err why) = RefusesTable pool needs parts why

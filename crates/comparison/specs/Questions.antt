@@ -3,7 +3,7 @@ use Rattle.std.specs.Prelude.{All, ◌≡◌, ℕ, ◌+◌, ◌<◌, ◌≤◌, 
 use Rattle.fields.specs.Bytes.{line_feed}
 use Rattle.fields.specs.Cuts.{Lacks}
 use Rattle.sharing.specs.Limits.{most_places}
-use Rattle.comparison.specs.Rows.{Short, RowOf, Stops, row}
+use Rattle.comparison.specs.Rows.{HasTenDigits, IsRowOf, Stops, numbers_row}
 use Rattle.comparison.specs.declared.problem.Problem.{Problem}
 use Rattle.comparison.specs.declared.problem.Problem.TheVariants.{At, Memory, OfParts, OfRule}
 use Rattle.comparison.specs.declared.question.Fault.{Fault}
@@ -14,18 +14,18 @@ use Rattle.comparison.specs.declared.question.Wrong.TheVariants.{LineFeed, Missi
 -- nothing where there are no parts, else a line of them
 abbrev pub parts_text : List ℕ → List ℕ
 parts_text [] = []
-parts_text (part ∷ parts) = row (part ∷ parts) ++ (line_feed ∷ [])
+parts_text (part ∷ parts) = numbers_row (part ∷ parts) ++ (line_feed ∷ [])
 
 -- a line with the pool and its needs, and then the parts
 abbrev question_text : ℕ → List ℕ → List ℕ → List ℕ
-question_text pool needs parts = row (pool ∷ needs) ++ (line_feed ∷ parts_text parts)
+question_text pool needs parts = numbers_row (pool ∷ needs) ++ (line_feed ∷ parts_text parts)
 
 -- the text asks how to share this pool among these needs, with these parts: 1 to 32 needs and up to 32 parts,
 -- each number of up to ten digits
 pub record Asks (bs : List ℕ) (pool : ℕ) (needs parts : List ℕ) : Type 0 where
   pub text : bs ≡ question_text pool needs parts
-  pub short : All Short (pool ∷ needs)
-  pub short_parts : All Short parts
+  pub short : All HasTenDigits (pool ∷ needs)
+  pub short_parts : All HasTenDigits parts
   pub some : 1 ≤ length needs
   pub few : length needs ≤ most_places
   pub few_parts : length parts ≤ most_places
@@ -39,67 +39,67 @@ abbrev pub at : ℕ → Option ℕ → Wrong → Fault
 at line field wrong = record { line = line; field = field; wrong = wrong }
 
 -- where and why what follows the first line is no line of parts
-pub data NoParts (bs : List ℕ) : Fault → Type 0 where
-  second_endless : 0 < length bs → Lacks line_feed bs → NoParts bs (at 2 None LineFeed)
+pub data IsNoParts (bs : List ℕ) : Fault → Type 0 where
+  second_endless : 0 < length bs → Lacks line_feed bs → IsNoParts bs (at 2 None LineFeed)
   second_unread : (second rest : List ℕ) (fault : Fault)
-      → Begins bs second rest → Stops 2 most_places second fault → NoParts bs fault
+      → Begins bs second rest → Stops 2 most_places second fault → IsNoParts bs fault
   third_line : (second rest parts : List ℕ)
-      → Begins bs second rest → RowOf most_places second parts → 0 < length rest
-      → NoParts bs (at 3 None Line)
+      → Begins bs second rest → IsRowOf most_places second parts → 0 < length rest
+      → IsNoParts bs (at 3 None Line)
 
 -- where and why the text is no question
-pub data NoQuestion (bs : List ℕ) : Fault → Type 0 where
-  first_endless : Lacks line_feed bs → NoQuestion bs (at 1 None LineFeed)
+pub data IsNoQuestion (bs : List ℕ) : Fault → Type 0 where
+  first_endless : Lacks line_feed bs → IsNoQuestion bs (at 1 None LineFeed)
   first_unread : (first rest : List ℕ) (fault : Fault)
-      → Begins bs first rest → Stops 1 (most_places + 1) first fault → NoQuestion bs fault
+      → Begins bs first rest → Stops 1 (most_places + 1) first fault → IsNoQuestion bs fault
   no_need : (first rest : List ℕ) (pool : ℕ)
-      → Begins bs first rest → RowOf (most_places + 1) first (pool ∷ [])
-      → NoQuestion bs (at 1 (Some 2) Missing)
+      → Begins bs first rest → IsRowOf (most_places + 1) first (pool ∷ [])
+      → IsNoQuestion bs (at 1 (Some 2) Missing)
   no_parts : (first rest : List ℕ) (pool need : ℕ) (needs : List ℕ) (fault : Fault)
-      → Begins bs first rest → RowOf (most_places + 1) first (pool ∷ need ∷ needs)
-      → NoParts rest fault → NoQuestion bs fault
+      → Begins bs first rest → IsRowOf (most_places + 1) first (pool ∷ need ∷ needs)
+      → IsNoParts rest fault → IsNoQuestion bs fault
 
 -- no question has this text
 abbrev pub AsksNothing : List ℕ → Type 0
 AsksNothing bs = (pool : ℕ) (needs parts : List ℕ) → Asks bs pool needs parts → ⊥
 
 -- a text asks at most one question
-abbrev pub OneQuestion : Type 0
-OneQuestion =
+abbrev pub AsksOneQuestion : Type 0
+AsksOneQuestion =
     (bs : List ℕ) (pool other : ℕ) (needs others parts further : List ℕ)
     → Asks bs pool needs parts → Asks bs other others further
     → (pool ≡ other) × (needs ≡ others) × (parts ≡ further)
 
 -- a text has at most one first fault
-abbrev pub OneFault : Type 0
-OneFault = (bs : List ℕ) (fault other : Fault) → NoQuestion bs fault → NoQuestion bs other → fault ≡ other
+abbrev pub HasOneFault : Type 0
+HasOneFault = (bs : List ℕ) (fault other : Fault) → IsNoQuestion bs fault → IsNoQuestion bs other → fault ≡ other
 
 -- why no question was read
-abbrev pub NoQuestionRead : List ℕ → Problem → Type 0
-NoQuestionRead bs (At fault) = NoQuestion bs fault × AsksNothing bs
-NoQuestionRead bs (OfRule refusal) = ⊥
-NoQuestionRead bs (OfParts refusal) = ⊥
-NoQuestionRead bs Memory = Unit {0}
+abbrev pub ReadsNoQuestion : List ℕ → Problem → Type 0
+ReadsNoQuestion bs (At fault) = IsNoQuestion bs fault × AsksNothing bs
+ReadsNoQuestion bs (OfRule refusal) = ⊥
+ReadsNoQuestion bs (OfParts refusal) = ⊥
+ReadsNoQuestion bs Memory = Unit {0}
 
 -- what the reader of a question answers
-abbrev pub QuestionRead : List ℕ → Result Question Problem → Type 0
-QuestionRead bs (Ok q) = Asks bs q.pool (vec_items q.needs) (vec_items q.parts)
-QuestionRead bs (Err why) = NoQuestionRead bs why
+abbrev pub ReadsQuestion : List ℕ → Result Question Problem → Type 0
+ReadsQuestion bs (Ok q) = Asks bs q.pool (vec_items q.needs) (vec_items q.parts)
+ReadsQuestion bs (Err why) = ReadsNoQuestion bs why
 
 -- the text after the first line has these parts
-pub record PartsOf (bs parts : List ℕ) : Type 0 where
+pub record HasParts (bs parts : List ℕ) : Type 0 where
   pub text : bs ≡ parts_text parts
-  pub short : All Short parts
+  pub short : All HasTenDigits parts
   pub few : length parts ≤ most_places
 
 -- why no parts were read
-abbrev pub NoPartsRead : List ℕ → Problem → Type 0
-NoPartsRead bs (At fault) = NoParts bs fault
-NoPartsRead bs (OfRule refusal) = ⊥
-NoPartsRead bs (OfParts refusal) = ⊥
-NoPartsRead bs Memory = Unit {0}
+abbrev pub ReadsNoParts : List ℕ → Problem → Type 0
+ReadsNoParts bs (At fault) = IsNoParts bs fault
+ReadsNoParts bs (OfRule refusal) = ⊥
+ReadsNoParts bs (OfParts refusal) = ⊥
+ReadsNoParts bs Memory = Unit {0}
 
 -- what the reader of the parts answers
-abbrev pub PartsRead : {A : Type 0} → List ℕ → Result (Vec ℕ A) Problem → Type 0
-PartsRead bs (Ok v) = PartsOf bs (vec_items v)
-PartsRead bs (Err why) = NoPartsRead bs why
+abbrev pub ReadsParts : {A : Type 0} → List ℕ → Result (Vec ℕ A) Problem → Type 0
+ReadsParts bs (Ok v) = HasParts bs (vec_items v)
+ReadsParts bs (Err why) = ReadsNoParts bs why

@@ -10,14 +10,14 @@ use Rattle.comparison.specs.declared.question.Wrong.{Wrong}
 use Rattle.comparison.specs.declared.question.Wrong.TheVariants.{LineFeed, Number, Missing, Surplus, Line}
 
 -- a number of up to ten digits
-abbrev pub Short : ℕ → Type 0
-Short n = n ≤ 9999999999
+abbrev pub HasTenDigits : ℕ → Type 0
+HasTenDigits n = n ≤ 9999999999
 
 -- the numbers parted by commas
-abbrev pub row : List ℕ → List ℕ
-row [] = []
-row (n ∷ []) = decimal n
-row (n ∷ m ∷ ns) = decimal n ++ (comma ∷ row (m ∷ ns))
+abbrev pub numbers_row : List ℕ → List ℕ
+numbers_row [] = []
+numbers_row (n ∷ []) = decimal n
+numbers_row (n ∷ m ∷ ns) = decimal n ++ (comma ∷ numbers_row (m ∷ ns))
 
 -- the numbers with a comma after each
 abbrev pub front_of : List ℕ → List ℕ
@@ -28,54 +28,54 @@ abbrev pub Starts : List ℕ → List ℕ → Type 0
 Starts field bs = Lacks comma field × ((bs ≡ field) ⊎ ((after : List ℕ) × (bs ≡ field ++ (comma ∷ after))))
 
 -- the field spells no number of up to ten digits
-abbrev pub NoNumber : List ℕ → Type 0
-NoNumber field = (n : ℕ) → Short n → field ≢ decimal n
+abbrev pub IsNoNumber : List ℕ → Type 0
+IsNoNumber field = (n : ℕ) → HasTenDigits n → field ≢ decimal n
 
 -- what is wrong with a field, of which a line may have most, after those before it
-abbrev pub FieldWrong : (most before : ℕ) → List ℕ → Wrong → Type 0
-FieldWrong most before field Number = (before < most) × NoNumber field
-FieldWrong most before field Surplus = before ≡ most
-FieldWrong most before field LineFeed = ⊥
-FieldWrong most before field Missing = ⊥
-FieldWrong most before field Line = ⊥
+abbrev pub IsWrongField : (most before : ℕ) → List ℕ → Wrong → Type 0
+IsWrongField most before field Number = (before < most) × IsNoNumber field
+IsWrongField most before field Surplus = before ≡ most
+IsWrongField most before field LineFeed = ⊥
+IsWrongField most before field Missing = ⊥
+IsWrongField most before field Line = ⊥
 
 -- the text is no row: the fields before the faulty one are numbers, each with a comma after it
 pub record Stops (line most : ℕ) (bs : List ℕ) (fault : Fault) : Type 0 where
   pub before : List ℕ
   pub rest : List ℕ
   pub text : bs ≡ front_of before ++ rest
-  pub short : All Short before
+  pub short : All HasTenDigits before
   pub at_line : fault.line ≡ line
   pub at_field : fault.field ≡ Some (length before + 1)
   pub field : List ℕ
   pub starts : Starts field rest
-  pub because : FieldWrong most (length before) field fault.wrong
+  pub because : IsWrongField most (length before) field fault.wrong
 
 -- the text is the row of these numbers
-pub record RowOf (most : ℕ) (bs : List ℕ) (ns : List ℕ) : Type 0 where
-  pub text : bs ≡ row ns
-  pub short : All Short ns
+pub record IsRowOf (most : ℕ) (bs : List ℕ) (ns : List ℕ) : Type 0 where
+  pub text : bs ≡ numbers_row ns
+  pub short : All HasTenDigits ns
   pub some : 1 ≤ length ns
   pub few : length ns ≤ most
 
 -- why no row was read
-abbrev pub NoRow : (line most : ℕ) → List ℕ → Problem → Type 0
-NoRow line most bs (At fault) = Stops line most bs fault
-NoRow line most bs (OfRule refusal) = ⊥
-NoRow line most bs (OfParts refusal) = ⊥
-NoRow line most bs Memory = Unit {0}
+abbrev pub ReadsNoRow : (line most : ℕ) → List ℕ → Problem → Type 0
+ReadsNoRow line most bs (At fault) = Stops line most bs fault
+ReadsNoRow line most bs (OfRule refusal) = ⊥
+ReadsNoRow line most bs (OfParts refusal) = ⊥
+ReadsNoRow line most bs Memory = Unit {0}
 
 -- what the reader of a row answers
-abbrev pub RowRead : {A : Type 0} (line most : ℕ) → List ℕ → Result (Vec ℕ A) Problem → Type 0
-RowRead line most bs (Ok v) = RowOf most bs (vec_items v)
-RowRead line most bs (Err why) = NoRow line most bs why
+abbrev pub ReadsNumbers : {A : Type 0} (line most : ℕ) → List ℕ → Result (Vec ℕ A) Problem → Type 0
+ReadsNumbers line most bs (Ok v) = IsRowOf most bs (vec_items v)
+ReadsNumbers line most bs (Err why) = ReadsNoRow line most bs why
 
 -- what one more field of a line adds to the numbers before it
-abbrev pub FieldRead : (line most : ℕ) (before field : List ℕ) → Result (Unit {0}) Problem → List ℕ → Type 0
-FieldRead line most before field (Ok done) after =
-    (length before < most) × ((n : ℕ) × (Short n × (field ≡ decimal n) × (after ≡ before ++ (n ∷ []))))
-FieldRead line most before field (Err (At fault)) after =
-    (fault.line ≡ line) × (fault.field ≡ Some (length before + 1)) × FieldWrong most (length before) field fault.wrong
-FieldRead line most before field (Err (OfRule refusal)) after = ⊥
-FieldRead line most before field (Err (OfParts refusal)) after = ⊥
-FieldRead line most before field (Err Memory) after = Unit {0}
+abbrev pub ReadsField : (line most : ℕ) (before field : List ℕ) → Result (Unit {0}) Problem → List ℕ → Type 0
+ReadsField line most before field (Ok done) after =
+    (length before < most) × ((n : ℕ) × (HasTenDigits n × (field ≡ decimal n) × (after ≡ before ++ (n ∷ []))))
+ReadsField line most before field (Err (At fault)) after =
+    (fault.line ≡ line) × (fault.field ≡ Some (length before + 1)) × IsWrongField most (length before) field fault.wrong
+ReadsField line most before field (Err (OfRule refusal)) after = ⊥
+ReadsField line most before field (Err (OfParts refusal)) after = ⊥
+ReadsField line most before field (Err Memory) after = Unit {0}

@@ -4,8 +4,8 @@ use Rattle.comparison.specs.declared.columns.Column.{Column}
 use Rattle.comparison.specs.declared.columns.Comparison.{Comparison}
 
 -- four numbers parted by commas, and a line feed
-abbrev four : ℕ → ℕ → ℕ → ℕ → List ℕ
-four a b c d = decimal a ++ (codes "," ++ (decimal b ++ (codes "," ++ (decimal c ++ (codes "," ++ (decimal d ++ codes "\n"))))))
+abbrev four_numbers : ℕ → ℕ → ℕ → ℕ → List ℕ
+four_numbers a b c d = decimal a ++ (codes "," ++ (decimal b ++ (codes "," ++ (decimal c ++ (codes "," ++ (decimal d ++ codes "\n"))))))
 
 -- the share of a place, or 0 past the end of the column
 abbrev share_at : Column → ℕ → ℕ
@@ -14,7 +14,7 @@ share_at column place = slice_index (vec_items column.shares) place
 -- the shares of a place by the four rules
 abbrev shares_at : Comparison → ℕ → List ℕ
 shares_at c place =
-    four (share_at c.line_order place) (share_at c.proportion place)
+    four_numbers (share_at c.line_order place) (share_at c.proportion place)
     (share_at c.parts_over_line_order place) (share_at c.parts_over_proportion place)
 
 -- the place, its need, and its share by each rule
@@ -29,7 +29,7 @@ place_rows c place (need ∷ needs) = place_row c place need ++ place_rows c (pl
 -- what each rule leaves of the pool
 abbrev pub last_row : Comparison → List ℕ
 last_row c =
-    codes "left,-," ++ four c.line_order.left c.proportion.left c.parts_over_line_order.left c.parts_over_proportion.left
+    codes "left,-," ++ four_numbers c.line_order.left c.proportion.left c.parts_over_line_order.left c.parts_over_proportion.left
 
 -- the line of names
 abbrev pub names_row : List ℕ

@@ -1,6 +1,6 @@
 -- How it is told in words why there is no table.
 use Rattle.std.specs.Prelude.{ℕ, List, ◌++◌, Some, None, codes, decimal, Option}
-use Rattle.sharing.specs.Refusals.{meaning, parts_meaning, told}
+use Rattle.sharing.specs.Refusals.{meaning, parts_meaning, refusal_words}
 use Rattle.comparison.specs.declared.problem.Problem.{Problem}
 use Rattle.comparison.specs.declared.problem.Problem.TheVariants.{At, Memory, OfParts, OfRule}
 use Rattle.comparison.specs.declared.question.Fault.{Fault}
@@ -16,17 +16,17 @@ wrong_words Surplus = codes "the line has more fields than it may"
 wrong_words Line = codes "the text goes on after its second line"
 
 -- a line by its number, and its field where one is meant
-abbrev place_told : ℕ → Option ℕ → List ℕ → List ℕ
-place_told line (Some field) words = codes "line " ++ (decimal line ++ (codes ", field " ++ (decimal field ++ (codes ": " ++ words))))
-place_told line None words = codes "line " ++ (decimal line ++ (codes ": " ++ words))
+abbrev place_words : ℕ → Option ℕ → List ℕ → List ℕ
+place_words line (Some field) words = codes "line " ++ (decimal line ++ (codes ", field " ++ (decimal field ++ (codes ": " ++ words))))
+place_words line None words = codes "line " ++ (decimal line ++ (codes ": " ++ words))
 
 -- a fault: its place, and what is wrong there
-abbrev pub fault_told : Fault → List ℕ
-fault_told fault = place_told fault.line fault.field (wrong_words fault.wrong)
+abbrev pub fault_words : Fault → List ℕ
+fault_words fault = place_words fault.line fault.field (wrong_words fault.wrong)
 
 -- the place of the fault, or the refusal with its number and its words
-abbrev pub problem_told : Problem → List ℕ
-problem_told (At fault) = fault_told fault
-problem_told (OfRule refusal) = codes "refused by " ++ told (meaning refusal)
-problem_told (OfParts refusal) = codes "refused by " ++ told (parts_meaning refusal)
-problem_told Memory = codes "there is no memory"
+abbrev pub problem_words : Problem → List ℕ
+problem_words (At fault) = fault_words fault
+problem_words (OfRule refusal) = codes "refused by " ++ refusal_words (meaning refusal)
+problem_words (OfParts refusal) = codes "refused by " ++ refusal_words (parts_meaning refusal)
+problem_words Memory = codes "there is no memory"

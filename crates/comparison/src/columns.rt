@@ -1,13 +1,10 @@
 //! What each rule gives every place, and what it leaves of the pool.
 ghost use Rattle.std.specs.Prelude.{◌≡◌, IfOk};
-ghost use Rattle.comparison.specs.Columns.{ColumnMade, Compared, PartsColumnMade, padded};
+ghost use Rattle.comparison.specs.Columns.{MakesColumn, Compares, MakesPartsColumn, padded_parts};
 
 use crate::problem::Problem;
 use crate::question::Asked;
-use sharing::order::LineOrder;
-use sharing::parts::Parts;
-use sharing::proportion::Proportion;
-use sharing::rule::{PLACES, SharingRule, left_of};
+use sharing::{LineOrder, PLACES, Parts, Proportion, SharingRule, left_of};
 use std::alloc::{AllocError, Global};
 
 // A list and no pairs with the needs: a rule writes its shares into a slice of numbers.
@@ -27,7 +24,7 @@ fn column_of<R: SharingRule>(
     pool: u64,
     needs: &[u64],
 ) -> Result<Column, Problem>
-    ensures { ColumnMade (R.SharingRule.sharing rule.now) pool needs.now result }
+    ensures { MakesColumn (R.SharingRule.sharing rule.now) pool needs.now result }
 {
     let mut shares = vec![in alloc; 0; needs.len()]?;
     rule.share(pool, needs, &mut shares)?;
@@ -37,7 +34,7 @@ fn column_of<R: SharingRule>(
 
 // The parts of all 32 places, of which those past the list are 0.
 fn pad(alloc: Global, parts: &[u64]) -> Result<Vec<u64>, AllocError>
-    ensures { IfOk result (λ v. v.items ≡ padded parts.now) }
+    ensures { IfOk result (λ v. v.items ≡ padded_parts parts.now) }
 {
     let mut all = Vec::from_slice(alloc, parts)?;
     all.resize(PLACES.max(parts.len()), 0)?;
@@ -52,7 +49,7 @@ fn column_with_parts<R: SharingRule + Drop>(
 ) -> Result<Column, Problem>
     ensures { let pool = asked.entry.pool in
         let needs = asked.entry.needs.now in
-        PartsColumnMade (R.SharingRule.sharing rule) asked.entry.parts.now pool needs result }
+        MakesPartsColumn (R.SharingRule.sharing rule) asked.entry.parts.now pool needs result }
 {
     let mut layer = Parts::over(rule);
     layer.set(asked.parts)?;
@@ -74,7 +71,7 @@ pub struct Comparison {
 
 // The four columns, where all 32 places have their parts.
 fn columns_of(alloc: Global, asked: Asked<'_>) -> Result<Comparison, Problem>
-    ensures { Compared asked.entry.pool asked.entry.needs.now asked.entry.parts.now result }
+    ensures { Compares asked.entry.pool asked.entry.needs.now asked.entry.parts.now result }
 {
     let line_order = column_of(alloc, &LineOrder, asked.pool, asked.needs)?;
     let proportion = column_of(alloc, &Proportion, asked.pool, asked.needs)?;
@@ -90,8 +87,8 @@ fn columns_of(alloc: Global, asked: Asked<'_>) -> Result<Comparison, Problem>
 
 /// Compares the rules on what is asked, the places past the list of parts having none.
 pub fn compare(alloc: Global, asked: Asked<'_>) -> Result<Comparison, Problem>
-    ensures { let parts = padded asked.entry.parts.now in
-        Compared asked.entry.pool asked.entry.needs.now parts result }
+    ensures { let parts = padded_parts asked.entry.parts.now in
+        Compares asked.entry.pool asked.entry.needs.now parts result }
 {
     let all = pad(alloc, asked.parts)?;
     columns_of(

@@ -1,11 +1,10 @@
 //! Why there is no table.
 ghost use Rattle.std.specs.Prelude.{◌≡◌, Some};
-ghost use Rattle.comparison.specs.Words.{problem_told};
+ghost use Rattle.comparison.specs.Words.{problem_words};
 ghost use Rattle.comparison.specs.declared.problem.Problem.TheVariants.{Memory, OfParts, OfRule};
 
 use crate::question::Fault;
-use sharing::parts_refusal::PartsRefusal;
-use sharing::refusal::ShareRefusal;
+use sharing::{PartsRefusal, ShareRefusal};
 use std::alloc::{AllocError, AllocFailed};
 use std::error::Error;
 use std::fmt;
@@ -25,7 +24,7 @@ pub enum Problem {
 
 // By hand: a derive of the kit states no words (`thiserror` states no `output`), and these are proved.
 impl fmt::Display for Problem {
-    ghost output = { λ problem. Some (problem_told problem) };
+    ghost output = { λ problem. Some (problem_words problem) };
 
     fn fmt<W: fmt::Write>(&self, f: &mut fmt::Formatter<W>) -> fmt::Result {
         match self {

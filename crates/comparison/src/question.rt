@@ -1,15 +1,14 @@
 //! The text of a question: a pool with its needs, and the parts if there are any.
 ghost use Rattle.std.specs.Prelude.{◌≡◌, ◌+◌, ◌≤◌, length, Some};
 ghost use Rattle.sharing.specs.Limits.{most_places};
-ghost use Rattle.comparison.specs.Questions.{PartsRead, QuestionRead, at};
-ghost use Rattle.comparison.specs.Rows.{FieldRead, RowRead};
-ghost use Rattle.comparison.specs.Words.{fault_told, wrong_words};
+ghost use Rattle.comparison.specs.Questions.{ReadsParts, ReadsQuestion, at};
+ghost use Rattle.comparison.specs.Rows.{ReadsField, ReadsNumbers};
+ghost use Rattle.comparison.specs.Words.{fault_words, wrong_words};
 ghost use Rattle.comparison.specs.declared.problem.Problem.TheVariants.{At};
 
 use crate::problem::Problem;
-use fields::marks::{COMMA, line};
-use fields::numbers::number;
-use sharing::rule::PLACES;
+use fields::{COMMA, line, number};
+use sharing::PLACES;
 use std::alloc::Global;
 use std::error::Error;
 use std::fmt;
@@ -61,7 +60,7 @@ pub struct Fault {
 
 // By hand: a derive of the kit states no words (`thiserror` states no `output`), and these are proved.
 impl fmt::Display for Fault {
-    ghost output = { λ fault. Some (fault_told fault) };
+    ghost output = { λ fault. Some (fault_words fault) };
 
     fn fmt<W: fmt::Write>(&self, f: &mut fmt::Formatter<W>) -> fmt::Result {
         let line = self.line;
@@ -123,7 +122,7 @@ fn wrong_at(line: usize, field: Option<usize>, wrong: Wrong) -> Problem
 fn read_field(found: &mut Vec<u64>, line: usize, field: &[u8], most: usize) -> Result<(), Problem>
     requires few { most ≤ most_places + 1 }
     requires room { length found.old.items ≤ most }
-    ensures { FieldRead line most found.old.items field.now result found.new.items }
+    ensures { ReadsField line most found.old.items field.now result found.new.items }
 {
     let before = found.len();
     if before == most {
@@ -139,7 +138,7 @@ fn read_field(found: &mut Vec<u64>, line: usize, field: &[u8], most: usize) -> R
 // The numbers of a line that may have `most` fields.
 fn read_row(alloc: Global, line: usize, text: &[u8], most: usize) -> Result<Vec<u64>, Problem>
     requires few { most ≤ most_places + 1 }
-    ensures { RowRead line most text.now result }
+    ensures { ReadsNumbers line most text.now result }
 {
     let mut found = Vec::new(alloc);
     for field in text.split(|byte| *byte == COMMA) {
@@ -150,7 +149,7 @@ fn read_row(alloc: Global, line: usize, text: &[u8], most: usize) -> Result<Vec<
 
 // The parts of a second line, or none where the text has ended.
 fn read_parts(alloc: Global, text: &[u8]) -> Result<Vec<u64>, Problem>
-    ensures { PartsRead text.now result }
+    ensures { ReadsParts text.now result }
 {
     if text.is_empty() {
         return Ok(Vec::new(alloc));
@@ -167,7 +166,7 @@ fn read_parts(alloc: Global, text: &[u8]) -> Result<Vec<u64>, Problem>
 
 /// Reads a question, or tells the first place at which the text is none.
 pub fn read(alloc: Global, text: &[u8]) -> Result<Question, Problem>
-    ensures { QuestionRead text.now result }
+    ensures { ReadsQuestion text.now result }
 {
     let Some((first, rest)) = line(text) else {
         return Err(wrong_at(1, None, Wrong::LineFeed));

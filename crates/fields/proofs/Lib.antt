@@ -2,7 +2,7 @@ mod Dating
 pub mod Forming
 pub mod Lacking
 pub mod Looks
-mod Marking
+mod Separating
 pub mod Parting
 mod Reading
 pub mod Signs

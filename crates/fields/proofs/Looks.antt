@@ -4,7 +4,7 @@ use Rattle.fields.proofs.Reading.{own}
 use Rattle.fields.proofs.Signs.{first_digit}
 use Rattle.fields.proofs.Spelling.{day_text_length, day_text_shaped}
 use Rattle.fields.specs.Texts.{day_text}
-use Rattle.fields.specs.Tokens.{DateLike, NumberLike, Tokened}
+use Rattle.fields.specs.Tokens.{LooksLikeDate, LooksLikeNumber, IsTokenOf}
 use Rattle.fields.specs.declared.token.Token.{Token}
 use Rattle.fields.specs.declared.token.Token.TheVariants.{Missing, Word, Number, Date}
 use Rattle.std.proofs.lemmas.Fmt.{decimal_nonempty, digits_decimal}
@@ -13,9 +13,9 @@ use Rattle.std.specs.Fmt.{signed_decimal}
 
 -- a text that begins with a digit or a minus, is not a minus alone and has no hyphen as its fifth byte is told as a number
 abbrev Numeric : List ℕ → Type 0
-Numeric bs = NumberLike bs × (bs ≡ codes "-" → ⊥) × (DateLike bs → ⊥)
+Numeric bs = LooksLikeNumber bs × (bs ≡ codes "-" → ⊥) × (LooksLikeDate bs → ⊥)
 
-told_as_number : (bs : List ℕ) (token : Token) → Tokened bs token → ((part : Bor (List ℕ)) → token ≡ Number part → ⊥) → Numeric bs → ⊥
+told_as_number : (bs : List ℕ) (token : Token) → IsTokenOf bs token → ((part : Bor (List ℕ)) → token ≡ Number part → ⊥) → Numeric bs → ⊥
 told_as_number bs Missing told other is = is.1 told
 told_as_number bs (Word part) told other is = told.1.1 is.0
 told_as_number bs (Number part) told other is = other part refl
@@ -30,7 +30,7 @@ numeric_decimal n h =
     )
 
 -- what is not told as a number spells none
-pub no_number : (bs : List ℕ) (token : Token) → Tokened bs token → ((part : Bor (List ℕ)) → token ≡ Number part → ⊥) → (n : ℕ) → n < 2 ^ 64 → bs ≡ decimal n → ⊥
+pub no_number : (bs : List ℕ) (token : Token) → IsTokenOf bs token → ((part : Bor (List ℕ)) → token ≡ Number part → ⊥) → (n : ℕ) → n < 2 ^ 64 → bs ≡ decimal n → ⊥
 no_number bs token told other n h e = told_as_number bs token told other (subst Numeric (sym e) (numeric_decimal n h))
 
 numeric_signed : (most : ℕ) (z : ℤ) → most < 2 ^ 32 → nat_abs z ≤ most → Numeric (signed_decimal z)
@@ -43,18 +43,18 @@ numeric_signed most (negsuc n) small le =
     )
 
 -- nor a signed number
-pub no_signed : (bs : List ℕ) (token : Token) → Tokened bs token → ((part : Bor (List ℕ)) → token ≡ Number part → ⊥) → (most : ℕ) (z : ℤ) → most < 2 ^ 32 → nat_abs z ≤ most → bs ≡ signed_decimal z → ⊥
+pub no_signed : (bs : List ℕ) (token : Token) → IsTokenOf bs token → ((part : Bor (List ℕ)) → token ≡ Number part → ⊥) → (most : ℕ) (z : ℤ) → most < 2 ^ 32 → nat_abs z ≤ most → bs ≡ signed_decimal z → ⊥
 no_signed bs token told other most z small le e = told_as_number bs token told other (subst Numeric (sym e) (numeric_signed most z small le))
 
-told_as_date : (bs : List ℕ) (token : Token) → Tokened bs token → ((part : Bor (List ℕ)) → token ≡ Date part → ⊥) → DateLike bs → ⊥
+told_as_date : (bs : List ℕ) (token : Token) → IsTokenOf bs token → ((part : Bor (List ℕ)) → token ≡ Date part → ⊥) → LooksLikeDate bs → ⊥
 told_as_date bs Missing told other like = let short = ap length told in omega (arith, like.ten)
 told_as_date bs (Word part) told other like = told.1.0 like
 told_as_date bs (Number part) told other like = told.2 like
 told_as_date bs (Date part) told other like = other part refl
 
 -- what is not told as a date spells none
-pub no_date : (bs : List ℕ) (token : Token) → Tokened bs token → ((part : Bor (List ℕ)) → token ≡ Date part → ⊥) → (day : ℕ) → bs ≡ day_text day → ⊥
+pub no_date : (bs : List ℕ) (token : Token) → IsTokenOf bs token → ((part : Bor (List ℕ)) → token ≡ Date part → ⊥) → (day : ℕ) → bs ≡ day_text day → ⊥
 no_date bs token told other day e =
     let shaped = day_text_shaped day in
     told_as_date bs token told other
-    (subst DateLike (sym e) (record { ten = day_text_length day; after_the_year = shaped.0; after_the_month = shaped.1 }))
+    (subst LooksLikeDate (sym e) (record { ten = day_text_length day; after_the_year = shaped.0; after_the_month = shaped.1 }))

@@ -2,45 +2,45 @@
 use Rattle.std.proofs.Common.{◌≡◌, ℕ, suc, ◌<◌, true, List, [], ◌∷◌, ◌++◌, length, is_some, Some, None, Option, sym, refl, ap, ◌∙◌, subst, ap₂, arith, Bor}
 use Rattle.fields.proofs.Lacking.{cut_once, no_mark}
 use Rattle.fields.specs.Cuts.{Cuts, Lacks}
-use Rattle.fields.specs.Partings.{Parted}
-use Rattle.fields.specs.Rows.{row}
+use Rattle.fields.specs.Partings.{IsParted}
+use Rattle.fields.specs.Rows.{texts_row}
 use Rattle.std.proofs.lemmas.Bool.{false≢true}
 use Rattle.std.proofs.lemmas.List.Elements.{All-cons, All-head, All-nil, All-tail}
 
 -- the first of the texts has no comma
-first_lacks : {bs text : List ℕ} {texts : List (List ℕ)} → Parted (text ∷ texts) bs → Lacks 44 text
+first_lacks : {bs text : List ℕ} {texts : List (List ℕ)} → IsParted (text ∷ texts) bs → Lacks 44 text
 first_lacks {bs} {text} {texts} is = All-head (Lacks 44) text texts is.commaless
 
 -- the texts after the first are parted by the commas of what follows it
-rest_parted : {bs text rest : List ℕ} {texts : List (List ℕ)} → Parted (text ∷ texts) bs → rest ≡ row texts → Parted texts rest
+rest_parted : {bs text rest : List ℕ} {texts : List (List ℕ)} → IsParted (text ∷ texts) bs → rest ≡ texts_row texts → IsParted texts rest
 rest_parted {bs} {text} {rest} {texts} is whole = record { commaless = All-tail (Lacks 44) text texts is.commaless; whole = whole }
 
 -- without a comma the bytes are one text
-pub one_text : {bs text : List ℕ} → Lacks 44 bs → text ≡ bs → Parted (text ∷ []) bs
-one_text {bs} {text} lacks same = subst (λ t. Parted (t ∷ []) bs) (sym same)
+pub one_text : {bs text : List ℕ} → Lacks 44 bs → text ≡ bs → IsParted (text ∷ []) bs
+one_text {bs} {text} lacks same = subst (λ t. IsParted (t ∷ []) bs) (sym same)
     (record { commaless = All-cons (Lacks 44) bs [] lacks (All-nil (Lacks 44)); whole = refl })
 
 -- the first comma ends one text more
-pub one_more : {bs field rest text next : List ℕ} {texts : List (List ℕ)} → (bs ≡ field ++ (44 ∷ rest)) × Lacks 44 field → text ≡ field → Parted (next ∷ texts) rest → Parted (text ∷ next ∷ texts) bs
-one_more {bs} {field} {rest} {text} {next} {texts} cut same is = subst (λ t. Parted (t ∷ next ∷ texts) bs) (sym same) (record {
+pub one_more : {bs field rest text next : List ℕ} {texts : List (List ℕ)} → (bs ≡ field ++ (44 ∷ rest)) × Lacks 44 field → text ≡ field → IsParted (next ∷ texts) rest → IsParted (text ∷ next ∷ texts) bs
+one_more {bs} {field} {rest} {text} {next} {texts} cut same is = subst (λ t. IsParted (t ∷ next ∷ texts) bs) (sym same) (record {
   commaless = All-cons (Lacks 44) field (next ∷ texts) cut.1 is.commaless;
   whole = cut.0 ∙ ap (λ r. field ++ (44 ∷ r)) is.whole;
 })
 
 -- the same of whatever texts there are, if there are any
-pub cut_more : {bs field rest : List ℕ} → (bs ≡ field ++ (44 ∷ rest)) × Lacks 44 field → (texts : List (List ℕ)) → 0 < length texts → Parted texts rest → Parted (field ∷ texts) bs
+pub cut_more : {bs field rest : List ℕ} → (bs ≡ field ++ (44 ∷ rest)) × Lacks 44 field → (texts : List (List ℕ)) → 0 < length texts → IsParted texts rest → IsParted (field ∷ texts) bs
 cut_more {bs} {field} {rest} cut [] some is = absurd (omega arith)
 cut_more {bs} {field} {rest} cut (next ∷ texts) some is = one_more cut refl is
 
 -- no so many texts are parted by the commas of the bytes
 abbrev pub NotIn : ℕ → List ℕ → Type 0
-NotIn n bs = (texts : List (List ℕ)) → length texts ≡ n → Parted texts bs → ⊥
+NotIn n bs = (texts : List (List ℕ)) → length texts ≡ n → IsParted texts bs → ⊥
 
 -- without a comma there is one text
 pub one_alone : (bs : List ℕ) (n : ℕ) → Lacks 44 bs → NotIn (suc (suc n)) bs
 one_alone bs n lacks [] count is = omega arith
 one_alone bs n lacks (text ∷ []) count is = omega arith
-one_alone bs n lacks (text ∷ next ∷ texts) count is = no_mark 44 text (row (next ∷ texts)) bs lacks is.whole
+one_alone bs n lacks (text ∷ next ∷ texts) count is = no_mark 44 text (texts_row (next ∷ texts)) bs lacks is.whole
 
 -- with a comma there are more
 more_than_one : (bs field rest : List ℕ) → bs ≡ field ++ (44 ∷ rest) → NotIn 1 bs
@@ -57,17 +57,17 @@ pub one_fewer : (bs field rest : List ℕ) (n : ℕ) → bs ≡ field ++ (44 ∷
 one_fewer bs field rest n e lacks fewer [] count is = omega arith
 one_fewer bs field rest n e lacks fewer (text ∷ []) count is = omega arith
 one_fewer bs field rest n e lacks fewer (text ∷ next ∷ texts) count is =
-    let same = cut_once 44 field text rest (row (next ∷ texts)) lacks (first_lacks is) (sym e ∙ is.whole) in
+    let same = cut_once 44 field text rest (texts_row (next ∷ texts)) lacks (first_lacks is) (sym e ∙ is.whole) in
     fewer (next ∷ texts) (omega arith) (rest_parted is same.1)
 
 -- two partings of the same bytes are the same
-pub one_parting : (bs text other : List ℕ) (texts others : List (List ℕ)) → Parted (text ∷ texts) bs → Parted (other ∷ others) bs → text ∷ texts ≡ other ∷ others
+pub one_parting : (bs text other : List ℕ) (texts others : List (List ℕ)) → IsParted (text ∷ texts) bs → IsParted (other ∷ others) bs → text ∷ texts ≡ other ∷ others
 one_parting bs text other [] [] is too = ap (λ t. t ∷ []) (sym is.whole ∙ too.whole)
 one_parting bs text other [] (o ∷ others) is too =
-    absurd (no_mark 44 other (row (o ∷ others)) text (first_lacks is) (sym is.whole ∙ too.whole))
+    absurd (no_mark 44 other (texts_row (o ∷ others)) text (first_lacks is) (sym is.whole ∙ too.whole))
 one_parting bs text other (t ∷ texts) [] is too =
-    absurd (no_mark 44 text (row (t ∷ texts)) other (first_lacks too) (sym too.whole ∙ is.whole))
+    absurd (no_mark 44 text (texts_row (t ∷ texts)) other (first_lacks too) (sym too.whole ∙ is.whole))
 one_parting bs text other (t ∷ texts) (o ∷ others) is too =
-    let same = cut_once 44 text other (row (t ∷ texts)) (row (o ∷ others)) (first_lacks is) (first_lacks too) (sym is.whole ∙ too.whole) in
-    let rest = one_parting (row (t ∷ texts)) t o texts others (rest_parted is refl) (rest_parted too same.1) in
+    let same = cut_once 44 text other (texts_row (t ∷ texts)) (texts_row (o ∷ others)) (first_lacks is) (first_lacks too) (sym is.whole ∙ too.whole) in
+    let rest = one_parting (texts_row (t ∷ texts)) t o texts others (rest_parted is refl) (rest_parted too same.1) in
     ap₂ (λ a b. a ∷ b) same.0 rest

@@ -1,6 +1,6 @@
 -- What the digits of a text tell of the number that it spells.
 use Rattle.std.proofs.Common.{◌≡◌, ℕ, ◌+◌, ◌-◌, ◌*◌, ◌^◌, ◌<◌, ◌≤◌, List, [], ◌∷◌, length, drop, get_or, Some, None, decimal, Option, sym, ap, ◌∙◌, subst, ⊎_elim, arith}
-use Rattle.fields.specs.Digits.{Spelled}
+use Rattle.fields.specs.Digits.{SpellsNumber}
 use Rattle.std.proofs.lemmas.Fmt.{decimal-digits_value, decimal_digit, decimal_injective, decimal_nonempty, digits_decimal, digits_value-decimal, first_decimal}
 use Rattle.std.proofs.lemmas.Bool.{cases_lt}
 use Rattle.std.proofs.lemmas.List.{at_drop_more, drop_all}
@@ -23,15 +23,15 @@ zero_alone x h first =
     (cases_lt 0 x)
 
 -- no text is empty
-pub no_empty : (bs : List ℕ) → length bs ≡ 0 → Spelled bs None
+pub no_empty : (bs : List ℕ) → length bs ≡ 0 → SpellsNumber bs None
 no_empty bs none x h e = omega (arith, ap length e, decimal_nonempty x h)
 
 -- and none of several digits begins with a zero
-pub no_zero : (bs : List ℕ) → 2 ≤ length bs → get_or bs 0 0 ≡ 48 → Spelled bs None
+pub no_zero : (bs : List ℕ) → 2 ≤ length bs → get_or bs 0 0 ≡ 48 → SpellsNumber bs None
 no_zero bs more zero x h e = omega (arith, ap length e, zero_alone x h (ap (λ l. get_or l 0 0) (sym e) ∙ zero))
 
 -- digits with no needless zero spell the number that they write
-pub by_digits : (bs : List ℕ) (r : Option ℕ) → 0 < length bs → (get_or bs 0 0 ≡ 48 → length bs ≡ 1) → SomeIff r (AllDigits 10 bs × (digits_value 10 bs < 2 ^ 64)) (digits_value 10 bs) → Spelled bs r
+pub by_digits : (bs : List ℕ) (r : Option ℕ) → 0 < length bs → (get_or bs 0 0 ≡ 48 → length bs ≡ 1) → SomeIff r (AllDigits 10 bs × (digits_value 10 bs < 2 ^ 64)) (digits_value 10 bs) → SpellsNumber bs r
 by_digits bs None some lead none = λ x h e.
     none (subst (λ l. AllDigits 10 l × (digits_value 10 l < 2 ^ 64)) (sym e) (digits_decimal own x h, omega (arith, digits_value-decimal own x h)))
 by_digits bs (Some n) some lead told =

@@ -4,19 +4,19 @@ use Rattle.calendar.proofs.Named.{dated, in_bounds}
 use Rattle.calendar.specs.Dates.{date_of_day, day_of_date}
 use Rattle.calendar.specs.declared.date.Date.{Date}
 use Rattle.fields.specs.Cuts.{Lacks}
-use Rattle.fields.specs.Texts.{Spellable, date_text, day_text, four, two}
+use Rattle.fields.specs.Texts.{IsSpellable, date_text, day_text, four_digits, two_digits}
 use Rattle.std.proofs.lemmas.List.Elements.{All-from_recursion, All-get_or}
 use Rattle.std.specs.Int.{IsInRange}
 
 -- two digits tell a number below a hundred
-pub same_two : (m n : ℕ) → m < 100 → n < 100 → two m ≡ two n → m ≡ n
+pub same_two : (m n : ℕ) → m < 100 → n < 100 → two_digits m ≡ two_digits n → m ≡ n
 same_two m n short-m short_n same =
     let tens = ap (λ l. get_or l 0 0) same in
     let ones = ap (λ l. get_or l 1 0) same in
     omega arith
 
 -- four digits tell a number below ten thousand
-pub same_four : (m n : ℕ) → m < 10000 → n < 10000 → four m ≡ four n → m ≡ n
+pub same_four : (m n : ℕ) → m < 10000 → n < 10000 → four_digits m ≡ four_digits n → m ≡ n
 same_four m n short-m short_n same =
     let front : m / 100 ≡ n / 100 = same_two (m / 100) (n / 100) (omega arith) (omega arith) (ap (take 2) same) in
     let tens = ap (λ l. get_or l 2 0) same in
@@ -24,7 +24,7 @@ same_four m n short-m short_n same =
     omega arith
 
 -- the text of a date tells the date
-pub same_date_text : (d e : Date) → Spellable d → Spellable e → date_text d ≡ date_text e → d ≡ e
+pub same_date_text : (d e : Date) → IsSpellable d → IsSpellable e → date_text d ≡ date_text e → d ≡ e
 same_date_text d e short-d short-e same =
     let years = same_four d.year e.year short-d.0 short-e.0 (ap (take 4) same) in
     let months = same_two d.month e.month short-d.1 short-e.1 (ap (λ l. take 2 (drop 5 l)) same) in
@@ -32,7 +32,7 @@ same_date_text d e short-d short-e same =
     λ i. record { year = years i; month = months i; day = days i }
 
 -- the parts of the date of a day are short
-pub short_date : (day : ℕ) → day ≤ 36524 → Spellable (date_of_day day)
+pub short_date : (day : ℕ) → day ≤ 36524 → IsSpellable (date_of_day day)
 short_date day early =
     let bounds = in_bounds (date_of_day day) day (dated day early) in
     (omega (arith, bounds.0), omega (arith, bounds.1), omega (arith, bounds.2))

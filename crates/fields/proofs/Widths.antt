@@ -1,18 +1,18 @@
 -- How long texts and lines of them are at most.
 use Rattle.std.proofs.Common.{◌≡◌, ℕ, suc, ◌+◌, ◌^◌, ◌<◌, ◌≤◌, List, [], ◌∷◌, length, ℤ, pos, negsuc, nat_abs, decimal, arith}
 use lib.Signed.{mag}
-use Rattle.fields.specs.Rows.{line_of, row}
+use Rattle.fields.specs.Rows.{line_of, texts_row}
 use Rattle.std.proofs.lemmas.Fmt.{length-decimal-le, length_signed_le}
 use Rattle.std.proofs.lemmas.List.{length-append, length_push}
 use Rattle.std.specs.Fmt.{signed_decimal}
 
 -- a line text after text
-length_row : (c d : List ℕ) (cs : List (List ℕ)) → length (row (c ∷ d ∷ cs)) ≡ length c + 1 + length (row (d ∷ cs))
-length_row c d cs = omega (arith, length-append c (44 ∷ row (d ∷ cs)))
+length_row : (c d : List ℕ) (cs : List (List ℕ)) → length (texts_row (c ∷ d ∷ cs)) ≡ length c + 1 + length (texts_row (d ∷ cs))
+length_row c d cs = omega (arith, length-append c (44 ∷ texts_row (d ∷ cs)))
 
 -- a line has its line feed besides
-pub length_line : (texts : List (List ℕ)) → length (line_of texts) ≡ length (row texts) + 1
-length_line texts = length_push (row texts) 10
+pub length_line : (texts : List (List ℕ)) → length (line_of texts) ≡ length (texts_row texts) + 1
+length_line texts = length_push (texts_row texts) 10
 
 -- each text has at most so many bytes
 abbrev pub Within : List (List ℕ) → List ℕ → Type 0
@@ -21,12 +21,12 @@ Within [] (most ∷ mosts) = ⊥
 Within (text ∷ texts) [] = ⊥
 Within (text ∷ texts) (most ∷ mosts) = (length text ≤ most) × Within texts mosts
 
--- the bytes of such texts, each with the mark after it
+-- the bytes of such texts, each with the separator after it
 abbrev pub room : List ℕ → ℕ
 room [] = 0
 room (most ∷ mosts) = most + 1 + room mosts
 
-row_within : (text : List ℕ) (texts : List (List ℕ)) (most : ℕ) (mosts : List ℕ) → Within (text ∷ texts) (most ∷ mosts) → length (row (text ∷ texts)) + 1 ≤ room (most ∷ mosts)
+row_within : (text : List ℕ) (texts : List (List ℕ)) (most : ℕ) (mosts : List ℕ) → Within (text ∷ texts) (most ∷ mosts) → length (texts_row (text ∷ texts)) + 1 ≤ room (most ∷ mosts)
 row_within text [] most [] short = omega (arith, short.0)
 row_within text [] most (other ∷ mosts) short = absurd short.1
 row_within text (next ∷ texts) most [] short = absurd short.1

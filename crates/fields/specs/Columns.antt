@@ -41,8 +41,8 @@ pub record Spelling (X : Type 0) : Type 1 where
 
 -- what the reader of a value answers: a fine value whose text the bytes are, where they have the form; or none where they
 -- have not, and are the text of no fine value
-abbrev pub ValueRead : {X : Type 0} → Spelling X → List ℕ → Option X → Type 0
-ValueRead {X} s bs r =
+abbrev pub ReadsValue : {X : Type 0} → Spelling X → List ℕ → Option X → Type 0
+ReadsValue {X} s bs r =
     MatchOption r ((s.form bs → ⊥) × ((x : X) → s.fine x → bs ≢ s.text x))
     (λ x. s.form bs × (s.fine x × (bs ≡ s.text x)))
 
@@ -55,15 +55,15 @@ ColumnReads {X} s field r =
     × (s.form field.part.now → ⊥) × ((x : X) → s.fine x → field.part.now ≢ s.text x))
 
 -- the text at this place has not its form, and every one before it has
-abbrev pub FirstWrong : List Form → List (List ℕ) → ℕ → Type 0
-FirstWrong [] texts place = ⊥
-FirstWrong (form ∷ forms) [] place = ⊥
-FirstWrong (form ∷ forms) (text ∷ texts) zero = form text → ⊥
-FirstWrong (form ∷ forms) (text ∷ texts) (suc place) = form text × FirstWrong forms texts place
+abbrev pub IsFirstWrong : List Form → List (List ℕ) → ℕ → Type 0
+IsFirstWrong [] texts place = ⊥
+IsFirstWrong (form ∷ forms) [] place = ⊥
+IsFirstWrong (form ∷ forms) (text ∷ texts) zero = form text → ⊥
+IsFirstWrong (form ∷ forms) (text ∷ texts) (suc place) = form text × IsFirstWrong forms texts place
 
 -- each text has its form, and there are as many
-abbrev pub AllRight : List Form → List (List ℕ) → Type 0
-AllRight [] [] = Unit {0}
-AllRight [] (text ∷ texts) = ⊥
-AllRight (form ∷ forms) [] = ⊥
-AllRight (form ∷ forms) (text ∷ texts) = form text × AllRight forms texts
+abbrev pub AreAllRight : List Form → List (List ℕ) → Type 0
+AreAllRight [] [] = Unit {0}
+AreAllRight [] (text ∷ texts) = ⊥
+AreAllRight (form ∷ forms) [] = ⊥
+AreAllRight (form ∷ forms) (text ∷ texts) = form text × AreAllRight forms texts

@@ -4,28 +4,28 @@ use Rattle.std.specs.Option.{SomeIff}
 use Rattle.std.specs.Int.{IsInRange}
 
 -- the value of a byte that is a digit
-abbrev pub Digit : ℕ → Option ℕ → Type 0
-Digit c r = SomeIff r (IsInRange 48 57 c) (c - 48)
+abbrev pub IsDigit : ℕ → Option ℕ → Type 0
+IsDigit c r = SomeIff r (IsInRange 48 57 c) (c - 48)
 
 -- the number that two digits write
-abbrev pub TwoDigits : (tens ones : ℕ) → Option ℕ → Type 0
-TwoDigits tens ones r =
+abbrev pub AreTwoDigits : (tens ones : ℕ) → Option ℕ → Type 0
+AreTwoDigits tens ones r =
     SomeIff r (IsInRange 48 57 tens × IsInRange 48 57 ones) ((tens - 48) * 10 + (ones - 48))
 
 -- the number that four digits write
-abbrev pub FourDigits : (thousands hundreds tens ones : ℕ) → Option ℕ → Type 0
-FourDigits thousands hundreds tens ones r =
+abbrev pub AreFourDigits : (thousands hundreds tens ones : ℕ) → Option ℕ → Type 0
+AreFourDigits thousands hundreds tens ones r =
     SomeIff r
     (IsInRange 48 57 thousands × IsInRange 48 57 hundreds
     × IsInRange 48 57 tens × IsInRange 48 57 ones)
     ((thousands - 48) * 1000 + (hundreds - 48) * 100 + (tens - 48) * 10 + (ones - 48))
 
 -- the one number of 64 bits whose text the bytes are, or none where there is no such number
-abbrev pub Spelled : List ℕ → Option ℕ → Type 0
-Spelled bs r =
+abbrev pub SpellsNumber : List ℕ → Option ℕ → Type 0
+SpellsNumber bs r =
     MatchOption r ((x : ℕ) → x < 2 ^ 64 → bs ≢ decimal x)
     (λ n. (bs ≡ decimal n) × ((x : ℕ) → x < 2 ^ 64 → bs ≡ decimal x → x ≡ n))
 
 -- the negative of a number, or none where it is 0
-abbrev pub BelowZero : ℕ → Option ℤ → Type 0
-BelowZero n r = SomeIff r (0 < n) (neg_ℤ (pos n))
+abbrev pub IsBelowZero : ℕ → Option ℤ → Type 0
+IsBelowZero n r = SomeIff r (0 < n) (neg_ℤ (pos n))

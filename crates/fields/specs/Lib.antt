@@ -2,7 +2,7 @@ pub mod Bytes
 pub mod Columns
 pub mod Cuts
 pub mod Digits
-pub mod Marks
+pub mod Separators
 pub mod Partings
 pub mod Reads
 pub mod Rows

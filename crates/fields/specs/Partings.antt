@@ -3,29 +3,29 @@ use Rattle.std.specs.Borrow.{Bor}
 use Rattle.std.specs.Prelude.{All, ◌≡◌, ℕ, ◌+◌, List, length, map, drop, Option, MatchOption}
 use Rattle.fields.specs.Bytes.{comma}
 use Rattle.fields.specs.Cuts.{Lacks}
-use Rattle.fields.specs.Rows.{row}
+use Rattle.fields.specs.Rows.{texts_row}
 
 -- the bytes are these texts, none of which has a comma, parted by commas
-pub record Parted (texts : List (List ℕ)) (bs : List ℕ) : Type 0 where
+pub record IsParted (texts : List (List ℕ)) (bs : List ℕ) : Type 0 where
   pub commaless : All (Lacks comma) texts
-  pub whole : bs ≡ row texts
+  pub whole : bs ≡ texts_row texts
 
 -- the bytes of each part
 abbrev pub part_texts : List (Bor (List ℕ)) → List (List ℕ)
 part_texts parts = map (λ part. part.now) parts
 
 -- the slice holds the fields of a text that has just as many; or the text has not, and the slice is as it was
-abbrev pub CutInto : List ℕ
+abbrev pub CutsInto : List ℕ
     → (old : List (Bor (List ℕ))) → Option (Unit {0}) → (new : List (Bor (List ℕ))) → Type 0
-CutInto bs old r new =
+CutsInto bs old r new =
     MatchOption r
-    (((texts : List (List ℕ)) → length texts ≡ length old → Parted texts bs → ⊥) × (new ≡ old))
-    (λ done. (length new ≡ length old) × Parted (part_texts new) bs)
+    (((texts : List (List ℕ)) → length texts ≡ length old → IsParted texts bs → ⊥) × (new ≡ old))
+    (λ done. (length new ≡ length old) × IsParted (part_texts new) bs)
 
 -- the same of the fields from a place on: for the contracts of private functions alone
-abbrev pub CutFrom : List ℕ → (at : ℕ)
+abbrev pub CutsFrom : List ℕ → (at : ℕ)
     → (old : List (Bor (List ℕ))) → Option (Unit {0}) → (new : List (Bor (List ℕ))) → Type 0
-CutFrom bs at old r new =
+CutsFrom bs at old r new =
     MatchOption r
-    (((texts : List (List ℕ)) → at + length texts ≡ length old → Parted texts bs → ⊥) × (new ≡ old))
-    (λ done. (length new ≡ length old) × Parted (part_texts (drop at new)) bs)
+    (((texts : List (List ℕ)) → at + length texts ≡ length old → IsParted texts bs → ⊥) × (new ≡ old))
+    (λ done. (length new ≡ length old) × IsParted (part_texts (drop at new)) bs)

@@ -1,6 +1,6 @@
 //! What a column of a table holds.
 ghost use Rattle.std.specs.Prelude.{◌≤◌, codes, decimal, unsigned_abs};
-ghost use Rattle.fields.specs.Columns.{ColumnReads, DateForm, MissingForm, NumberForm, SignedForm, Spelling, ValueRead};
+ghost use Rattle.fields.specs.Columns.{ColumnReads, DateForm, MissingForm, NumberForm, SignedForm, Spelling, ReadsValue};
 ghost use Rattle.fields.specs.Reads.{Reads};
 ghost use Rattle.fields.specs.Texts.{day_text};
 ghost use Rattle.std.specs.Fmt.{signed_decimal};
@@ -9,7 +9,7 @@ use crate::dates::day;
 use crate::field::{Field, WrongField};
 use crate::numbers::{number, signed_number};
 use crate::token::{Token, token_of};
-use calendar::days::Day;
+use calendar::Day;
 
 /// The largest number of a table: nine digits.
 pub const MOST_NUMBER: u32 = 999_999_999;
@@ -21,7 +21,7 @@ pub trait Column: Copy {
 
     /// The value that the bytes spell, or none where they have not the form of the column.
     fn of(part: &[u8]) -> Option<Self>
-        ensures { ValueRead spelling part.now result };
+        ensures { ReadsValue spelling part.now result };
 
     /// The value that the field spells, or that the field is wrong where it has not the form of the column.
     final fn read(field: Field<'_>) -> Result<Self, WrongField>

@@ -1,13 +1,12 @@
 //! Reads the dates and the months of a text.
 ghost use Rattle.std.specs.Prelude.{◌≤◌};
-ghost use Rattle.fields.specs.Digits.{FourDigits, TwoDigits};
+ghost use Rattle.fields.specs.Digits.{AreFourDigits, AreTwoDigits};
 ghost use Rattle.fields.specs.Reads.{Reads};
-ghost use Rattle.fields.specs.Texts.{Spellable, date_text, day_text, month_text};
+ghost use Rattle.fields.specs.Texts.{IsSpellable, date_text, day_text, month_text};
 
-use crate::marks::HYPHEN;
 use crate::numbers::digit;
-use calendar::date::{Date, day_of, month_in};
-use calendar::days::{Day, Month};
+use crate::separators::HYPHEN;
+use calendar::{Date, Day, Month, day_of, month_in};
 
 const TEN: u8 = 10;
 
@@ -36,7 +35,7 @@ pub fn month(part: &[u8]) -> Option<Month>
 
 // The date that the part spells, whether or not there is such a day.
 fn date(part: &[u8]) -> Option<Date>
-    ensures { Reads Spellable date_text part.now result }
+    ensures { Reads IsSpellable date_text part.now result }
 {
     let [y0, y1, y2, y3, HYPHEN, m0, m1, HYPHEN, d0, d1] = part else {
         return None;
@@ -49,7 +48,7 @@ fn date(part: &[u8]) -> Option<Date>
 
 // The number that four digits write.
 fn four_digits(thousands: u8, hundreds: u8, tens: u8, ones: u8) -> Option<u16>
-    ensures { FourDigits thousands hundreds tens ones result }
+    ensures { AreFourDigits thousands hundreds tens ones result }
 {
     let front = two_digits(thousands, hundreds)?;
     let back = two_digits(tens, ones)?;
@@ -58,7 +57,7 @@ fn four_digits(thousands: u8, hundreds: u8, tens: u8, ones: u8) -> Option<u16>
 
 // The number that two digits write. Each is read by itself, since the pattern of a date names them.
 fn two_digits(tens: u8, ones: u8) -> Option<u8>
-    ensures { TwoDigits tens ones result }
+    ensures { AreTwoDigits tens ones result }
 {
     let tens = digit(tens)?;
     let ones = digit(ones)?;

@@ -1,6 +1,6 @@
 //! A field of a line.
 ghost use Rattle.std.specs.Prelude.{◌≡◌};
-ghost use Rattle.fields.specs.Tokens.{Told, Tokened};
+ghost use Rattle.fields.specs.Tokens.{IsFieldOf, IsTokenOf};
 
 use crate::token::{Token, token_of};
 
@@ -27,14 +27,14 @@ pub struct WrongField {
 impl<'a> Field<'a> {
     /// The field with this line and this number in it.
     pub fn new(line: usize, number: usize, part: &'a [u8]) -> Field<'a>
-        ensures { Told line number part.entry result }
+        ensures { IsFieldOf line number part.entry result }
     {
         Field { line, number, part }
     }
 
     /// The token of the field.
     pub fn token(self) -> Token<'a>
-        ensures { Tokened self.entry.part.now result }
+        ensures { IsTokenOf self.entry.part.now result }
     {
         token_of(self.part)
     }

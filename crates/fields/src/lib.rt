@@ -1,9 +1,16 @@
 //! The parts of a text: what its commas separate, where its lines end, its numbers, dates and months.
 #![tactic(auto)]
 
-pub mod column;
-pub mod dates;
-pub mod field;
-pub mod marks;
-pub mod numbers;
-pub mod token;
+mod column;
+mod dates;
+mod field;
+mod numbers;
+mod separators;
+mod token;
+
+pub use column::{Column, Dated, MOST_NUMBER, Missing, Number, Signed};
+pub use dates::{day, month};
+pub use field::{Field, WrongField};
+pub use numbers::{ZERO, number, signed_number};
+pub use separators::{COMMA, HYPHEN, LINE_FEED, cut, cut_into, line, next_line_feed};
+pub use token::{Token, token_of};

@@ -1,13 +1,13 @@
 //! Reads the numbers of a text.
 ghost use Rattle.std.specs.Prelude.{◌+◌, ◌-◌, ◌*◌, ◌^◌, ◌<◌, ◌≤◌, ◌↔◌, decimal, IsTrue, unsigned_abs};
-ghost use Rattle.fields.specs.Digits.{BelowZero, Digit, Spelled};
+ghost use Rattle.fields.specs.Digits.{IsBelowZero, IsDigit, SpellsNumber};
 ghost use Rattle.fields.specs.Reads.{Reads};
 ghost use Rattle.std.specs.Fmt.{signed_decimal};
 ghost use Rattle.std.specs.Int.{IsInRange};
 ghost use Rattle.std.specs.Option.{SomeIff};
 ghost use Rattle.std.specs.Str.Parse.{AllDigits, digits_value};
 
-use crate::marks::HYPHEN;
+use crate::separators::HYPHEN;
 
 /// The digit 0.
 pub const ZERO: u8 = b'0';
@@ -42,14 +42,14 @@ pub fn signed_number(part: &[u8], most: u32) -> Option<i64>
 // The number below 0 with these digits, or none where they are those of 0, which has no minus.
 fn below_zero(value: u64) -> Option<i64>
     requires { value < 2 ^ 32 }
-    ensures { BelowZero value result }
+    ensures { IsBelowZero value result }
 {
     (value > 0).then(|| -(value as i64))
 }
 
 // The number of 64 bits that the part spells: its digits, of which the first is a 0 only where it stands alone.
 fn spelled(part: &[u8]) -> Option<u64>
-    ensures { Spelled part.now result }
+    ensures { SpellsNumber part.now result }
 {
     match part {
         [] | [ZERO, _, ..] => None,
@@ -80,7 +80,7 @@ fn followed(front: u64, byte: u8) -> Option<u64>
 
 // The value of a digit.
 pub(crate) fn digit(byte: u8) -> Option<u8>
-    ensures { Digit byte result }
+    ensures { IsDigit byte result }
 {
     match byte {
         ZERO..=NINE => Some(byte - ZERO),

@@ -1,8 +1,8 @@
 //! What stands between two commas of a line, told by its look.
-ghost use Rattle.fields.specs.Tokens.{Tokened};
+ghost use Rattle.fields.specs.Tokens.{IsTokenOf};
 
-use crate::marks::HYPHEN;
 use crate::numbers::{NINE, ZERO};
+use crate::separators::HYPHEN;
 
 /// A part of a text by what it looks like, which it need not be.
 #[derive(Clone, Copy, Debug)]
@@ -19,7 +19,7 @@ pub enum Token<'a> {
 
 /// The token of a part.
 pub fn token_of(part: &[u8]) -> Token<'_>
-    ensures { Tokened part.now result }
+    ensures { IsTokenOf part.now result }
 {
     match part {
         [HYPHEN] => Token::Missing,

@@ -6,11 +6,11 @@ use Rattle.ledger.specs.declared.entry.Entry.{Entry}
 use Rattle.group.proofs.EntriesSound.{altered_found}
 use Rattle.group.proofs.Stepping.{and_then_ok, made_ok}
 use Rattle.group.specs.Changes.{AltersOne, EntersOne, EntriesAlterOne, YearsAlterTheHolder}
-use Rattle.group.specs.Entries.{after_entry, open_month, place_of, recorded}
-use Rattle.group.specs.Groups.{altered}
+use Rattle.group.specs.Entries.{after_entry, open_month, place_of, recorded_member}
+use Rattle.group.specs.Groups.{entry_result}
 use Rattle.group.specs.Months.{Prices}
 use Rattle.group.specs.Results.{Answers, Follows}
-use Rattle.group.specs.Years.{after_year, closed, credited, holder_of, open_year, year_figures}
+use Rattle.group.specs.Years.{after_year, closing_result, credited_account, holder_of, open_year, year_figures}
 use Rattle.group.specs.declared.group.Group.{Group}
 use Rattle.group.specs.declared.member.Member.{Member}
 use Rattle.group.specs.declared.refusal.BookRefusal.{BookRefusal}
@@ -29,8 +29,8 @@ others_stay place other member members apart = ap (λ found. ok_or found refused
 
 pub entries_alter_one : EntriesAlterOne
 entries_alter_one entry old new is =
-    let (month, opened, rest) = and_then_ok (open_month old.phase) (λ (m : ℕ). altered (place_of entry) (recorded m entry) old) new is in
-    let (member, changed, found, room, stepped, same) = altered_found (place_of entry) (recorded month entry) old new rest in
+    let (month, opened, rest) = and_then_ok (open_month old.phase) (λ (m : ℕ). entry_result (place_of entry) (recorded_member m entry) old) new is in
+    let (member, changed, found, room, stepped, same) = altered_found (place_of entry) (recorded_member month entry) old new rest in
     subst (λ (g : Group). EntersOne entry old g) same (record {
       one = record {
         others = λ other apart. others_stay (place_of entry) other changed old.members.items apart;
@@ -45,7 +45,7 @@ pub years_alter_the_holder : YearsAlterTheHolder
 years_alter_the_holder prices old new figures is =
     let (december, ended, same) = made_ok (λ (d : ℕ). (year_figures (prices d) old, after_year prices d old)) (open_year old.phase) (figures, new) is in
     subst (λ (g : Group). AltersOne old.holder old g) (ap (λ (r : YearEnd × Group). r.1) same) (record {
-      others = λ other apart. others_stay old.holder other (record (holder_of old) { account = credited (prices december) old }) old.members.items apart;
+      others = λ other apart. others_stay old.holder other (record (holder_of old) { account = credited_account (prices december) old }) old.members.items apart;
       number = refl;
       holder = refl;
     })
@@ -61,7 +61,7 @@ entry_alters entry old new (Err refusal) follows =
     subst (λ (g : Group). EntersOne entry old g) (sym follows.1) (record { one = nothing_altered (place_of entry) old; carried = refl; phase = refl })
 
 -- and so does a year closing
-pub closing_alters : (prices : ℕ → Prices) (old new : Group) (r : Result YearEnd BookRefusal) → Answers (closed prices old) old r new → AltersOne old.holder old new
+pub closing_alters : (prices : ℕ → Prices) (old new : Group) (r : Result YearEnd BookRefusal) → Answers (closing_result prices old) old r new → AltersOne old.holder old new
 closing_alters prices old new (Ok figures) follows = years_alter_the_holder prices old new figures follows
 closing_alters prices old new (Err refusal) follows =
     subst (λ (g : Group). AltersOne old.holder old g) (sym follows.1) (nothing_altered old.holder old)

@@ -1,6 +1,6 @@
 -- What contracts see of a book: a group, with the rule and the tariff that it is settled by.
 use Rattle.std.specs.Prelude.{◌≡◌, ℕ, Bool, true, false, if◌then◌else◌, List, Ok, Err, Result}
-use Rattle.group.specs.Groups.{opened}
+use Rattle.group.specs.Groups.{opening_group}
 use Rattle.group.specs.Results.{and_then}
 use Rattle.group.specs.declared.group.Group.{Group}
 use Rattle.group.specs.declared.group.Phase.{Phase}
@@ -16,7 +16,7 @@ pub record BookState (R T : Type 0) : Type 0 where
   pub group : Group
 
 -- the rule and the tariff stay
-pub record SameTerms {R T : Type 0} (old new : BookState R T) : Type 0 where
+pub record KeepsTerms {R T : Type 0} (old new : BookState R T) : Type 0 where
   pub rule : new.rule ≡ old.rule
   pub tariff : new.tariff ≡ old.tariff
 
@@ -28,10 +28,10 @@ was_opened (YearEnd december) = true
 was_opened Over = true
 
 -- whether a group was never opened
-abbrev pub unopened : Phase → Result (Unit {0}) BookRefusal
-unopened phase = if was_opened phase then Err Opened else Ok tt
+abbrev pub opening_phase : Phase → Result (Unit {0}) BookRefusal
+opening_phase phase = if was_opened phase then Err Opened else Ok tt
 
 -- the group after an opening
 abbrev pub after_opening : (number start holder : ℕ) → List OpeningRecord → Group → Result Group BookRefusal
 after_opening number start holder records group =
-    and_then (unopened group.phase) (λ done. opened number start holder records)
+    and_then (opening_phase group.phase) (λ done. opening_group number start holder records)

@@ -5,7 +5,7 @@ use Rattle.ledger.specs.declared.entry.Entry.{Entry}
 use Rattle.group.specs.Entries.{after_entry, place_of}
 use Rattle.group.specs.Groups.{member_at}
 use Rattle.group.specs.Months.{Prices}
-use Rattle.group.specs.Years.{closed}
+use Rattle.group.specs.Years.{closing_result}
 use Rattle.group.specs.declared.group.Group.{Group}
 
 -- every place but one has the record that it had, and the group has its number and its holder
@@ -28,5 +28,5 @@ EntriesAlterOne =
 -- no year closing alters another record than that of the holder
 abbrev pub YearsAlterTheHolder : Type 0
 YearsAlterTheHolder =
-    (prices : ℕ → Prices) (old new : Group) (figures : YearEnd) → closed prices old ≡ Ok (figures, new)
+    (prices : ℕ → Prices) (old new : Group) (figures : YearEnd) → closing_result prices old ≡ Ok (figures, new)
     → AltersOne old.holder old new

@@ -1,14 +1,14 @@
 -- A draft, when it is current, and what drawing and issuing make of a group.
 use Rattle.std.specs.Prelude.{ℕ, ◌+◌, ◌%◌, Bool, false, not, ◌&&◌, if◌then◌else◌, List, ◌++◌, length, drop, ◌==◌, nat_lt, Ok, Err, Result}
 use Rattle.ledger.specs.declared.bill.Bill.{Bill}
-use Rattle.group.specs.Results.{and_then, made}
+use Rattle.group.specs.Results.{and_then, result_map}
 use Rattle.group.specs.declared.group.Group.{Group}
 use Rattle.group.specs.declared.group.Phase.{Phase}
 use Rattle.group.specs.declared.group.Phase.TheVariants.{Blank, Open, YearEnd, Over}
 use Rattle.group.specs.declared.refusal.BookRefusal.{BookRefusal}
 use Rattle.group.specs.declared.refusal.BookRefusal.TheVariants as refused
 use Rattle.group.specs.Entries.{open_month}
-use Rattle.group.specs.Months.{Prices, Share, billed_members, carried_in, each_zone, lines_of}
+use Rattle.group.specs.Months.{Prices, Share, billed_members, carried_in, each_zone, bills_of}
 
 -- the three numbers of a draft: those of the group and the month that it was drawn of, and how many entries the month had
 pub record Stamp : Type 0 where
@@ -17,8 +17,8 @@ pub record Stamp : Type 0 where
   pub entries : ℕ
 
 -- a draft of the group as it stands in a month
-abbrev pub stamped : (month : ℕ) → Group → Stamp
-stamped month group = record { number = group.number; month = month; entries = group.entries }
+abbrev pub stamp_of : (month : ℕ) → Group → Stamp
+stamp_of month group = record { number = group.number; month = month; entries = group.entries }
 
 -- the three numbers are those of a draft of the group in a month
 abbrev pub is_of : (month : ℕ) → Group → Stamp → Bool
@@ -45,15 +45,15 @@ abbrev pub slice_is_too_short : (places : ℕ) → Group → Bool
 slice_is_too_short places group = nat_lt places (length group.members.items)
 
 -- the month that is open, where a slice of so many places has room for the lines of the group
-abbrev pub drawable : (places : ℕ) → Group → Result ℕ BookRefusal
-drawable places group =
+abbrev pub drawing_month : (places : ℕ) → Group → Result ℕ BookRefusal
+drawing_month places group =
     and_then (open_month group.phase) (λ month.
-    if slice_is_too_short places group then Err refused.Lines else Ok month)
+    if slice_is_too_short places group then Err refused.Bills else Ok month)
 
 -- a draft, and the lines of a drawing
-abbrev pub drawn : Share → (ℕ → Prices) → (places : ℕ) → Group → Result (Stamp × List Bill) BookRefusal
-drawn share prices places group =
-    made (λ month. (stamped month group, lines_of share (prices month) group)) (drawable places group)
+abbrev pub drawing_result : Share → (ℕ → Prices) → (places : ℕ) → Group → Result (Stamp × List Bill) BookRefusal
+drawing_result share prices places group =
+    result_map (λ month. (stamp_of month group, bills_of share (prices month) group)) (drawing_month places group)
 
 -- the phase after a month is issued: after December the year end follows, else the next month opens
 abbrev pub next_phase : (month : ℕ) → Phase
@@ -69,23 +69,23 @@ after_month share prices month group = record group {
 }
 
 -- the lines of an issue, and the group after it
-abbrev pub issued : Share → (ℕ → Prices) → Stamp → (places : ℕ) → Group → Result (List Bill × Group) BookRefusal
-issued share prices stamp places group =
-    and_then (drawable places group) (λ month.
+abbrev pub issue_result : Share → (ℕ → Prices) → Stamp → (places : ℕ) → Group → Result (List Bill × Group) BookRefusal
+issue_result share prices stamp places group =
+    and_then (drawing_month places group) (λ month.
     if is_current group stamp
-    then Ok (lines_of share (prices month) group, after_month share prices month group)
+    then Ok (bills_of share (prices month) group, after_month share prices month group)
     else Err refused.Draft)
 
 -- a slice after lines are written over its front
-abbrev pub overwritten : List Bill → List Bill → List Bill
-overwritten lines slice = lines ++ drop (length lines) slice
+abbrev pub overwritten_front : List Bill → List Bill → List Bill
+overwritten_front lines slice = lines ++ drop (length lines) slice
 
 -- a draft, and the slice after a drawing
 abbrev pub after_drawing : Share → (ℕ → Prices) → Group → List Bill → Result (Stamp × List Bill) BookRefusal
 after_drawing share prices group slice =
-    made (λ drawing. (drawing.0, overwritten drawing.1 slice)) (drawn share prices (length slice) group)
+    result_map (λ drawing. (drawing.0, overwritten_front drawing.1 slice)) (drawing_result share prices (length slice) group)
 
 -- the group and the slice after an issue
 abbrev pub after_issue : Share → (ℕ → Prices) → Stamp → Group × List Bill → Result (Group × List Bill) BookRefusal
 after_issue share prices stamp (group, slice) =
-    made (λ issue. (issue.1, overwritten issue.0 slice)) (issued share prices stamp (length slice) group)
+    result_map (λ issue. (issue.1, overwritten_front issue.0 slice)) (issue_result share prices stamp (length slice) group)

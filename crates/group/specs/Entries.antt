@@ -2,10 +2,10 @@
 use Rattle.std.specs.Prelude.{ℕ, Bool, Ok, Err, Result, is_err}
 use Rattle.ledger.specs.declared.entry.Entry.{Entry}
 use Rattle.ledger.specs.declared.entry.Entry.TheVariants.{Reading, Change, Correction, Payment}
-use Rattle.group.specs.Groups.{altered}
+use Rattle.group.specs.Groups.{entry_result}
 use Rattle.group.specs.Members.{on_account, on_register}
-use Rattle.group.specs.Payments.{paid, payment_is_outside}
-use Rattle.group.specs.Registers.{corrected, is_beyond, is_over, read, value_is_too_large}
+use Rattle.group.specs.Payments.{with_payment, payment_is_outside}
+use Rattle.group.specs.Registers.{with_correction, is_beyond, is_over, with_reading, value_is_too_large}
 use Rattle.group.specs.Results.{and_then}
 use Rattle.group.specs.declared.group.Group.{Group}
 use Rattle.group.specs.declared.group.Phase.{Phase}
@@ -40,13 +40,13 @@ place_of (Correction at kwh) = at.place
 place_of (Payment place drams) = place
 
 -- what an entry of an open month makes of the record that it is for: a reading counts on from its value, and a change from the start value
-abbrev pub recorded : (month : ℕ) → Entry → Member → Result Member BookRefusal
-recorded month (Reading at day value) = on_register at (read month day value value)
-recorded month (Change at day value start) = on_register at (read month day value start)
-recorded month (Correction at kwh) = on_register at (corrected kwh)
-recorded month (Payment place drams) = on_account (paid drams)
+abbrev pub recorded_member : (month : ℕ) → Entry → Member → Result Member BookRefusal
+recorded_member month (Reading at day value) = on_register at (with_reading month day value value)
+recorded_member month (Change at day value start) = on_register at (with_reading month day value start)
+recorded_member month (Correction at kwh) = on_register at (with_correction kwh)
+recorded_member month (Payment place drams) = on_account (with_payment drams)
 
 -- what an entry makes of a group
 abbrev pub after_entry : Entry → Group → Result Group BookRefusal
 after_entry entry group =
-    and_then (open_month group.phase) (λ month. altered (place_of entry) (recorded month entry) group)
+    and_then (open_month group.phase) (λ month. entry_result (place_of entry) (recorded_member month entry) group)

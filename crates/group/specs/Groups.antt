@@ -4,7 +4,7 @@ use Rattle.std.specs.List.{list_all, list_any}
 use Rattle.std.specs.Option.{ok_or, option_map_or}
 use Rattle.arrayvec.specs.ArrayVec.{with_item}
 use Rattle.group.specs.Members.{capacity_of, has_register_over, opened_member}
-use Rattle.group.specs.Results.{and_then, made}
+use Rattle.group.specs.Results.{and_then, result_map}
 use Rattle.group.specs.declared.group.Group.{Group}
 use Rattle.group.specs.declared.group.Phase.TheVariants.{Blank, Open}
 use Rattle.group.specs.declared.member.Member.{Member}
@@ -65,17 +65,17 @@ abbrev pub holder_produces_nothing : (holder : ℕ) → List OpeningRecord → B
 holder_produces_nothing holder records = not (is_producer holder records)
 
 -- a register opens over 9,999,999 kWh
-abbrev pub some_over : List OpeningRecord → Bool
-some_over records = list_any has_register_over records
+abbrev pub some_register_over : List OpeningRecord → Bool
+some_register_over records = list_any has_register_over records
 
 -- whether a group may open so: the first refusal that stands, or none
-abbrev pub opening : (start holder : ℕ) → List OpeningRecord → Result (Unit {0}) BookRefusal
-opening start holder records =
+abbrev pub opening_check : (start holder : ℕ) → List OpeningRecord → Result (Unit {0}) BookRefusal
+opening_check start holder records =
     if count_is_outside records then Err refused.Count
     else (if start_is_too_late start then Err refused.Start
     else (if is_over_capacity records then Err refused.Capacity
     else (if holder_produces_nothing holder records then Err refused.Holder
-    else (if some_over records then Err refused.Register
+    else (if some_register_over records then Err refused.Register
     else Ok tt))))
 
 -- the records of the members as a group opens
@@ -83,14 +83,14 @@ abbrev pub members_of : List OpeningRecord → List Member
 members_of records = map opened_member records
 
 -- a group as it opens
-abbrev pub opened : (number start holder : ℕ) → List OpeningRecord → Result Group BookRefusal
-opened number start holder records =
-    made (λ done. record blank {
+abbrev pub opening_group : (number start holder : ℕ) → List OpeningRecord → Result Group BookRefusal
+opening_group number start holder records =
+    result_map (λ done. record blank {
       number = number;
       holder = holder;
       members = record { items = members_of records };
       phase = Open start;
-    }) (opening start holder records)
+    }) (opening_check start holder records)
 
 -- the record of the member at a place, where there is one
 abbrev pub member_at : (place : ℕ) → Group → Result Member BookRefusal
@@ -109,15 +109,15 @@ abbrev pub room_for_entry : Group → Result (Unit {0}) BookRefusal
 room_for_entry group = if month_is_full group then Err refused.Full else Ok tt
 
 -- the group with one more entry, which made this of the record at a place
-abbrev pub entered : (place : ℕ) → Member → Group → Group
-entered place member group = record group {
+abbrev pub entry_group : (place : ℕ) → Member → Group → Group
+entry_group place member group = record group {
   members = with_item group.members place member;
   entries = group.entries + 1;
 }
 
 -- the group after an entry that does a step on the record at a place
-abbrev pub altered : (place : ℕ) → (Member → Result Member BookRefusal) → Group → Result Group BookRefusal
-altered place step group =
+abbrev pub entry_result : (place : ℕ) → (Member → Result Member BookRefusal) → Group → Result Group BookRefusal
+entry_result place step group =
     and_then (member_at place group) (λ member.
     and_then (room_for_entry group) (λ room.
-    made (λ after. entered place after group) (step member)))
+    result_map (λ after. entry_group place after group) (step member)))

@@ -8,7 +8,7 @@ use Rattle.ledger.specs.declared.entry.MemberRegister.{MemberRegister}
 use Rattle.tariff.specs.declared.class.Class.{Class}
 use Rattle.tariff.specs.declared.class.Class.TheVariants.{Other}
 use Rattle.group.specs.Registers.{is_over, opened_register}
-use Rattle.group.specs.Results.{made}
+use Rattle.group.specs.Results.{result_map}
 use Rattle.group.specs.declared.member.Member.{Member}
 use Rattle.group.specs.declared.member.OpeningRecord.{OpeningRecord}
 use Rattle.group.specs.declared.refusal.BookRefusal.{BookRefusal}
@@ -27,11 +27,11 @@ with_register at register member =
 -- what a step on one register does to the record
 abbrev pub on_register : MemberRegister → (Register → Result Register BookRefusal) → Member → Result Member BookRefusal
 on_register at step member =
-    made (λ register. with_register at register member) (step (register_at at member))
+    result_map (λ register. with_register at register member) (step (register_at at member))
 
 -- what a step on the account does to the record
 abbrev pub on_account : (Account → Result Account BookRefusal) → Member → Result Member BookRefusal
-on_account step member = made (λ account. record member { account = account }) (step member.account)
+on_account step member = result_map (λ account. record member { account = account }) (step member.account)
 
 -- a record as a group opens
 abbrev pub opening_record : (capacity : ℕ) → Class → ByZone (ByFlow ℕ) → OpeningRecord

@@ -21,8 +21,8 @@ abbrev pub debt_would_be_too_low : (drams : ℕ) → Account → Bool
 debt_would_be_too_low drams account = int_lt (account.debt -ℤ pos drams) (neg_ℤ (pos most_in_advance))
 
 -- the account after a payment
-abbrev pub paid : (drams : ℕ) → Account → Result Account BookRefusal
-paid drams account =
+abbrev pub with_payment : (drams : ℕ) → Account → Result Account BookRefusal
+with_payment drams account =
     if payment_is_outside drams then Err Value
     else (if debt_would_be_too_low drams account then Err Debt
     else Ok (record account { debt = account.debt -ℤ pos drams }))

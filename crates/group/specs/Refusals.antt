@@ -6,7 +6,7 @@ use Rattle.ledger.specs.declared.entry.Entry.{Entry}
 use Rattle.group.specs.Books.{was_opened}
 use Rattle.group.specs.Drafts.{Stamp, draft_is_out_of_date, slice_is_too_short}
 use Rattle.group.specs.Entries.{amount_is_outside, no_month_is_open}
-use Rattle.group.specs.Groups.{count_is_outside, holder_produces_nothing, is_over_capacity, month_is_full, place_has_no_record, some_over, start_is_too_late}
+use Rattle.group.specs.Groups.{count_is_outside, holder_produces_nothing, is_over_capacity, month_is_full, place_has_no_record, some_register_over, start_is_too_late}
 use Rattle.group.specs.Payments.{debt_would_be_too_low}
 use Rattle.group.specs.Registers.{day_is_outside, is_beyond, value_is_below}
 use Rattle.group.specs.Years.{no_year_has_ended}
@@ -14,7 +14,7 @@ use Rattle.group.specs.declared.group.Group.{Group}
 use Rattle.group.specs.declared.group.Phase.{Phase}
 use Rattle.group.specs.declared.member.OpeningRecord.{OpeningRecord}
 use Rattle.group.specs.declared.refusal.BookRefusal.{BookRefusal}
-use Rattle.group.specs.declared.refusal.BookRefusal.TheVariants.{Opened, Count, Start, Capacity, Holder, Register, NoMonth, NoYearEnd, Place, Full, Day, Value, Below, Tally, Debt, Lines, Draft}
+use Rattle.group.specs.declared.refusal.BookRefusal.TheVariants.{Opened, Count, Start, Capacity, Holder, Register, NoMonth, NoYearEnd, Place, Full, Day, Value, Below, Tally, Debt, Bills, Draft}
 
 -- a refusal's number, and what it stands for in words
 pub record Meaning : Type 0 where
@@ -38,7 +38,7 @@ meaning Value = record { number = 16; words = codes "the value, the correction o
 meaning Below = record { number = 17; words = codes "the register stands higher already" }
 meaning Tally = record { number = 18; words = codes "the register would have over 1000000 kWh in the month, either way" }
 meaning Debt = record { number = 19; words = codes "the member would have paid over 1000000000 drams in advance" }
-meaning Lines = record { number = 20; words = codes "there are more members than places for lines" }
+meaning Bills = record { number = 20; words = codes "there are more members than places for bills" }
 meaning Draft = record { number = 21; words = codes "the draft is out of date" }
 
 -- what the test of each refusal looks at
@@ -58,7 +58,7 @@ Test Value = Entry → Bool
 Test Below = (standing value : ℕ) → Bool
 Test Tally = (sum : ℤ) → Bool
 Test Debt = (drams : ℕ) → Account → Bool
-Test Lines = (places : ℕ) → Group → Bool
+Test Bills = (places : ℕ) → Group → Bool
 Test Draft = Group → Stamp → Bool
 
 -- the test of the input by which each refusal stands
@@ -68,7 +68,7 @@ test_of Count = count_is_outside
 test_of Start = start_is_too_late
 test_of Capacity = is_over_capacity
 test_of Holder = holder_produces_nothing
-test_of Register = some_over
+test_of Register = some_register_over
 test_of NoMonth = no_month_is_open
 test_of NoYearEnd = no_year_has_ended
 test_of Place = place_has_no_record
@@ -78,9 +78,9 @@ test_of Value = amount_is_outside
 test_of Below = value_is_below
 test_of Tally = is_beyond
 test_of Debt = debt_would_be_too_low
-test_of Lines = slice_is_too_short
+test_of Bills = slice_is_too_short
 test_of Draft = draft_is_out_of_date
 
 -- the number of a refusal
-abbrev pub number_of : BookRefusal → ℕ
-number_of refusal = (meaning refusal).number
+abbrev pub book_refusal_number : BookRefusal → ℕ
+book_refusal_number refusal = (meaning refusal).number

@@ -2,7 +2,7 @@
 use Rattle.std.specs.Prelude.{ℕ, ◌-◌, Bool, not, ◌||◌, if◌then◌else◌, ℤ, pos, ◌+ℤ◌, nat_abs, nat_le, nat_lt, Option, Some, None, is_none, Ok, Err, Result}
 use Rattle.std.specs.Option.{ok_or}
 use Rattle.calendar.specs.Gregorian.{lies_in}
-use Rattle.group.specs.Results.{and_then, made}
+use Rattle.group.specs.Results.{and_then, result_map}
 use Rattle.group.specs.declared.refusal.BookRefusal.{BookRefusal}
 use Rattle.group.specs.declared.refusal.BookRefusal.TheVariants.{Day, Value, Below, Tally}
 use Rattle.group.specs.declared.register.Register.{Register}
@@ -45,24 +45,24 @@ tally_with tally quantity =
     if is_beyond (tally +ℤ quantity) then Err Tally else Ok (tally +ℤ quantity)
 
 -- the register with the quantity of a value in its tally, which from then on stands at the start value
-abbrev pub counted : (value start : ℕ) → Register → Result Register BookRefusal
-counted value start register =
+abbrev pub with_value : (value start : ℕ) → Register → Result Register BookRefusal
+with_value value start register =
     and_then (ok_or (quantity register.standing value) Below) (λ kwh.
-    made (λ tally. record { standing = start; tally = tally }) (tally_with register.tally (pos kwh)))
+    result_map (λ tally. record { standing = start; tally = tally }) (tally_with register.tally (pos kwh)))
 
 -- the register after a value is read of it on a day of the month; from then on it stands at the start value,
 -- which is the same value for a reading, and that of the new meter for a change
-abbrev pub read : (month day value start : ℕ) → Register → Result Register BookRefusal
-read month day value start register =
+abbrev pub with_reading : (month day value start : ℕ) → Register → Result Register BookRefusal
+with_reading month day value start register =
     if day_is_outside month day then Err Day
     else (if value_is_too_large value start then Err Value
-    else counted value start register)
+    else with_value value start register)
 
 -- the register after a correction of its tally, where it stands as before
-abbrev pub corrected : ℤ → Register → Result Register BookRefusal
-corrected kwh register =
+abbrev pub with_correction : ℤ → Register → Result Register BookRefusal
+with_correction kwh register =
     if is_beyond kwh then Err Value
-    else made (λ tally. record register { tally = tally }) (tally_with register.tally kwh)
+    else result_map (λ tally. record register { tally = tally }) (tally_with register.tally kwh)
 
 -- a register as it opens: nothing is tallied
 abbrev pub opened_register : (standing : ℕ) → Register

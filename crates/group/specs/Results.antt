@@ -7,9 +7,9 @@ and_then (Ok x) step = step x
 and_then (Err e) step = Err e
 
 -- what is made of the value that a step gives
-abbrev pub made : {A B E : Type 0} → (A → B) → Result A E → Result B E
-made f (Ok x) = Ok (f x)
-made f (Err e) = Err e
+abbrev pub result_map : {A B E : Type 0} → (A → B) → Result A E → Result B E
+result_map f (Ok x) = Ok (f x)
+result_map f (Err e) = Err e
 
 -- a call does what its step says: the value becomes what the step gives, or the call answers the refusal of the step and leaves the value as it was
 abbrev pub Follows : {A E : Type 0} → Result A E → (old : A) → Result (Unit {0}) E → (new : A) → Type 0

@@ -16,19 +16,19 @@ use Rattle.group.specs.declared.member.Member.{Member}
 use Rattle.group.specs.declared.register.Register.{Register}
 
 -- a register of seven digits, and a tally of up to 1,000,000 kWh either way
-pub record SoundRegister (register : Register) : Type 0 where
+pub record IsSoundRegister (register : Register) : Type 0 where
   pub standing : register.standing ≤ most_standing
   pub tally : nat_abs register.tally ≤ most_tally
 
 -- both registers of a zone
-pub record SoundFlows (flows : ByFlow Register) : Type 0 where
-  pub consumed : SoundRegister flows.consumed
-  pub delivered : SoundRegister flows.delivered
+pub record AreSoundFlows (flows : ByFlow Register) : Type 0 where
+  pub consumed : IsSoundRegister flows.consumed
+  pub delivered : IsSoundRegister flows.delivered
 
 -- a record whose registers and fraction are in their ranges, and whose debt is at most so many drams either way
-pub record SoundMember (owed : ℕ) (member : Member) : Type 0 where
-  pub day : SoundFlows member.registers.day
-  pub night : SoundFlows member.registers.night
+pub record IsSoundMember (owed : ℕ) (member : Member) : Type 0 where
+  pub day : AreSoundFlows member.registers.day
+  pub night : AreSoundFlows member.registers.night
   pub fraction : member.account.fraction < 100
   pub debt : nat_abs member.account.debt ≤ owed
 
@@ -55,29 +55,29 @@ most_entries (YearEnd december) = 0
 most_entries Over = 0
 
 -- the months are those of the calendar, and the holder is a member once the group is opened
-abbrev pub SoundPhase : Phase → (holder members : ℕ) → Type 0
-SoundPhase Blank holder members = Unit {0}
-SoundPhase (Open month) holder members = (month ≤ 1199) × (holder < members)
-SoundPhase (YearEnd december) holder members = (december ≤ 1199) × (december % 12 ≡ 11) × (holder < members)
-SoundPhase Over holder members = holder < members
+abbrev pub IsSoundPhase : Phase → (holder members : ℕ) → Type 0
+IsSoundPhase Blank holder members = Unit {0}
+IsSoundPhase (Open month) holder members = (month ≤ 1199) × (holder < members)
+IsSoundPhase (YearEnd december) holder members = (december ≤ 1199) × (december % 12 ≡ 11) × (holder < members)
+IsSoundPhase Over holder members = holder < members
 
 -- the figures of the group are in their ranges, its phase has the months and the members that it may have, and before its opening it is the blank one
-pub record Sound (group : Group) : Type 0 where
+pub record IsSound (group : Group) : Type 0 where
   pub few : length group.members.items ≤ most_members
-  pub each : All (SoundMember (most_owed group.phase)) group.members.items
+  pub each : All (IsSoundMember (most_owed group.phase)) group.members.items
   pub carried : (zone : Zone) → in_zone group.carried zone ≤ most_carried group.phase
   pub entries : group.entries ≤ most_entries group.phase
-  pub phase : SoundPhase group.phase group.holder (length group.members.items)
+  pub phase : IsSoundPhase group.phase group.holder (length group.members.items)
   pub unopened : group.phase ≡ Blank → group ≡ blank
 
 -- what a member got in a month is at most 2,000,000 kWh of each kind
-pub record SmallSupplies (supplies : ByZone Supply) : Type 0 where
+pub record AreSmallSupplies (supplies : ByZone Supply) : Type 0 where
   pub day_billed : supplies.day.billed ≤ 2000000
   pub day_covered : supplies.day.covered ≤ 2000000
   pub night_billed : supplies.night.billed ≤ 2000000
   pub night_covered : supplies.night.covered ≤ 2000000
 
 -- an account to which a month's cost or a year's credit can be posted
-pub record Postable (account : Account) : Type 0 where
+pub record IsPostable (account : Account) : Type 0 where
   pub fraction : account.fraction < 100
   pub debt : nat_abs account.debt ≤ 2500000000000000

@@ -1,19 +1,18 @@
 //! A group, its opening, and its entries, each of which changes one record.
 ghost use Rattle.std.specs.Prelude.{◌≡◌, ◌<◌, ◌≤◌, length};
-ghost use Rattle.group.specs.Groups.{altered, blank, capacities_fit, entered, is_producer, member_at, members_of, most_in_month, most_members, opened, opening, room_for_entry, some_over};
+ghost use Rattle.group.specs.Groups.{entry_result, blank, capacities_fit, entry_group, is_producer, member_at, members_of, most_in_month, most_members, opening_group, opening_check, room_for_entry, some_register_over};
 ghost use Rattle.group.specs.Members.{on_account, on_register};
-ghost use Rattle.group.specs.Payments.{paid};
-ghost use Rattle.group.specs.Registers.{corrected, read};
+ghost use Rattle.group.specs.Payments.{with_payment};
+ghost use Rattle.group.specs.Registers.{with_correction, with_reading};
 ghost use Rattle.group.specs.Results.{Follows};
 
 use crate::member::{Member, OpeningRecord};
 use crate::refusal::BookRefusal;
 use crate::register::MeterReading;
 use arrayvec::ArrayVec;
-use calendar::days::{LAST_MONTH, Month};
-use ledger::entry::MemberRegister;
-use ledger::zone::ByZone;
-use sharing::rule::PLACES;
+use calendar::{LAST_MONTH, Month};
+use ledger::{ByZone, MemberRegister};
+use sharing::PLACES;
 
 /// The largest capacity of a member, in kW.
 pub const MOST_CAPACITY: u32 = 150;
@@ -74,7 +73,7 @@ impl Group {
         holder: usize,
         records: &[OpeningRecord],
     ) -> Result<Group, BookRefusal>
-        ensures { result ≡ opened number start holder records.now }
+        ensures { result ≡ opening_group number start holder records.now }
     {
         opening(start, holder, records)?;
         Ok(Group {
@@ -94,40 +93,40 @@ impl Group {
     }
 
     /// Enters what is read of a register in a month, of which the caller has seen that it is open.
-    pub fn read(&mut self, month: Month, reading: MeterReading) -> Result<(), BookRefusal>
+    pub fn enter_reading(&mut self, month: Month, reading: MeterReading) -> Result<(), BookRefusal>
         ensures { Follows
-            (altered reading.register.place
+            (entry_result reading.register.place
             (on_register reading.register
-            (read month reading.day reading.value reading.start)) self.old)
+            (with_reading month reading.day reading.value reading.start)) self.old)
             self.old result self.new }
     {
         let mut member = self.member_at(reading.register.place)?;
         self.room_for_entry()?;
-        member.read(month, reading)?;
+        member.enter_reading(month, reading)?;
         self.enter(reading.register.place, member);
         Ok(())
     }
 
     /// Enters a correction of a register's tally where the caller has seen that a month is open.
-    pub fn correct(&mut self, at: MemberRegister, kwh: i32) -> Result<(), BookRefusal>
-        ensures { Follows (altered at.place (on_register at (corrected kwh)) self.old)
+    pub fn enter_correction(&mut self, at: MemberRegister, kwh: i32) -> Result<(), BookRefusal>
+        ensures { Follows (entry_result at.place (on_register at (with_correction kwh)) self.old)
             self.old result self.new }
     {
         let mut member = self.member_at(at.place)?;
         self.room_for_entry()?;
-        member.correct(at, kwh)?;
+        member.enter_correction(at, kwh)?;
         self.enter(at.place, member);
         Ok(())
     }
 
     /// Enters a payment in drams by the member at a place where the caller has seen that a month is open.
-    pub fn pay(&mut self, place: usize, drams: u32) -> Result<(), BookRefusal>
-        ensures { Follows (altered place (on_account (paid drams)) self.old)
+    pub fn enter_payment(&mut self, place: usize, drams: u32) -> Result<(), BookRefusal>
+        ensures { Follows (entry_result place (on_account (with_payment drams)) self.old)
             self.old result self.new }
     {
         let mut member = self.member_at(place)?;
         self.room_for_entry()?;
-        member.pay(drams)?;
+        member.enter_payment(drams)?;
         self.enter(place, member);
         Ok(())
     }
@@ -146,7 +145,7 @@ impl Group {
     fn enter(&mut self, place: usize, member: Member)
         requires place { place < length self.old.members.items }
         requires room { self.old.entries < most_in_month }
-        ensures { self.new ≡ entered place member self.old }
+        ensures { self.new ≡ entry_group place member self.old }
     {
         self.members[place] = member;
         self.entries += 1;
@@ -155,7 +154,7 @@ impl Group {
 
 // Whether a group may open so.
 fn opening(start: Month, holder: usize, records: &[OpeningRecord]) -> Result<(), BookRefusal>
-    ensures { result ≡ opening start holder records.now }
+    ensures { result ≡ opening_check start holder records.now }
 {
     if records.is_empty() || records.len() > PLACES {
         return Err(BookRefusal::Count);
@@ -201,7 +200,7 @@ fn is_producer(place: usize, records: &[OpeningRecord]) -> bool
 
 // Whether a register opens over its largest value.
 fn some_over(records: &[OpeningRecord]) -> bool
-    ensures { result ≡ some_over records.now }
+    ensures { result ≡ some_register_over records.now }
 {
     records.iter().any(|record| record.is_over())
 }

@@ -1,18 +1,17 @@
 //! The record of a member.
 ghost use Rattle.std.specs.Prelude.{◌≡◌};
 ghost use Rattle.group.specs.Members.{nobody, capacity_of, has_register_over, on_account, on_register, one_over, opened_flows, opened_member, opening_record, register_at, with_register};
-ghost use Rattle.group.specs.Payments.{paid};
-ghost use Rattle.group.specs.Registers.{corrected, read};
+ghost use Rattle.group.specs.Payments.{with_payment};
+ghost use Rattle.group.specs.Registers.{with_correction, with_reading};
 ghost use Rattle.group.specs.Results.{Follows};
 
-use crate::payment::paid;
+use crate::payment::with_payment;
 use crate::refusal::BookRefusal;
 use crate::register::{MOST_STANDING, MeterReading, Register};
-use billing::account::Account;
-use calendar::days::Month;
-use ledger::entry::MemberRegister;
-use ledger::zone::{ByFlow, ByZone};
-use tariff::class::Class;
+use billing::Account;
+use calendar::Month;
+use ledger::{ByFlow, ByZone, MemberRegister};
+use tariff::Class;
 
 /// What a group opens with for a member.
 #[derive(Clone, Copy, PartialEq, Eq, Debug)]
@@ -115,31 +114,41 @@ impl Member {
     }
 
     // Enters what is read of a register.
-    pub(crate) fn read(&mut self, month: Month, reading: MeterReading) -> Result<(), BookRefusal>
+    pub(crate) fn enter_reading(
+        &mut self,
+        month: Month,
+        reading: MeterReading,
+    ) -> Result<(), BookRefusal>
         ensures { Follows
             (on_register reading.register
-            (read month reading.day reading.value reading.start) self.old)
+            (with_reading month reading.day reading.value reading.start) self.old)
             self.old result self.new }
     {
-        let register = self.register_at(reading.register).read(month, reading)?;
+        let register = self
+            .register_at(reading.register)
+            .with_reading(month, reading)?;
         self.set_register(reading.register, register);
         Ok(())
     }
 
     // Enters a correction of a register's tally.
-    pub(crate) fn correct(&mut self, at: MemberRegister, kwh: i32) -> Result<(), BookRefusal>
-        ensures { Follows (on_register at (corrected kwh) self.old) self.old result self.new }
+    pub(crate) fn enter_correction(
+        &mut self,
+        at: MemberRegister,
+        kwh: i32,
+    ) -> Result<(), BookRefusal>
+        ensures { Follows (on_register at (with_correction kwh) self.old) self.old result self.new }
     {
-        let register = self.register_at(at).corrected(kwh)?;
+        let register = self.register_at(at).with_correction(kwh)?;
         self.set_register(at, register);
         Ok(())
     }
 
     // Enters a payment in drams.
-    pub(crate) fn pay(&mut self, drams: u32) -> Result<(), BookRefusal>
-        ensures { Follows (on_account (paid drams) self.old) self.old result self.new }
+    pub(crate) fn enter_payment(&mut self, drams: u32) -> Result<(), BookRefusal>
+        ensures { Follows (on_account (with_payment drams) self.old) self.old result self.new }
     {
-        self.account = paid(self.account, drams)?;
+        self.account = with_payment(self.account, drams)?;
         Ok(())
     }
 }

@@ -1,6 +1,6 @@
 //! Why a call on the book is turned away.
 ghost use Rattle.std.specs.Prelude.{◌≡◌, Some};
-ghost use Rattle.group.specs.Refusals.{meaning, number_of};
+ghost use Rattle.group.specs.Refusals.{meaning, book_refusal_number};
 
 use std::error::Error;
 use std::fmt;
@@ -39,7 +39,7 @@ pub enum BookRefusal {
     /// The group would owe the member more than 1,000,000,000 drams.
     Debt,
     /// The slice ends before the line of the last member.
-    Lines,
+    Bills,
     /// The draft does not agree with the book as it stands.
     Draft,
 }
@@ -47,7 +47,7 @@ pub enum BookRefusal {
 impl BookRefusal {
     /// The refusal's number.
     pub fn number(self) -> u8
-        ensures { result ≡ number_of self }
+        ensures { result ≡ book_refusal_number self }
     {
         match self {
             BookRefusal::Opened => 1,
@@ -65,7 +65,7 @@ impl BookRefusal {
             BookRefusal::Below => 17,
             BookRefusal::Tally => 18,
             BookRefusal::Debt => 19,
-            BookRefusal::Lines => 20,
+            BookRefusal::Bills => 20,
             BookRefusal::Draft => 21,
         }
     }
@@ -92,7 +92,7 @@ impl BookRefusal {
                 "the register would have over 1000000 kWh in the month, either way"
             }
             BookRefusal::Debt => "the member would have paid over 1000000000 drams in advance",
-            BookRefusal::Lines => "there are more members than places for lines",
+            BookRefusal::Bills => "there are more members than places for bills",
             BookRefusal::Draft => "the draft is out of date",
         }
     }

@@ -1,10 +1,10 @@
 //! The registers of a member, and what is read of them.
 ghost use Rattle.std.specs.Prelude.{◌≡◌, ◌≤◌};
-ghost use Rattle.group.specs.Registers.{corrected, counted, most_standing, opened_register, quantity, read, tally_with};
+ghost use Rattle.group.specs.Registers.{with_correction, with_value, most_standing, opened_register, quantity, with_reading, tally_with};
 
 use crate::refusal::BookRefusal;
-use calendar::days::{Day, Month, is_in};
-use ledger::entry::MemberRegister;
+use calendar::{Day, Month, is_in};
+use ledger::MemberRegister;
 
 /// The largest value of a register, in kWh.
 pub const MOST_STANDING: u32 = 9_999_999;
@@ -42,8 +42,12 @@ impl Register {
     }
 
     // The register after it is read in the open month, which from then on stands at the start value.
-    pub(crate) fn read(self, month: Month, reading: MeterReading) -> Result<Register, BookRefusal>
-        ensures { result ≡ read month reading.day reading.value reading.start self }
+    pub(crate) fn with_reading(
+        self,
+        month: Month,
+        reading: MeterReading,
+    ) -> Result<Register, BookRefusal>
+        ensures { result ≡ with_reading month reading.day reading.value reading.start self }
     {
         if !is_in(reading.day, month) {
             return Err(BookRefusal::Day);
@@ -51,14 +55,14 @@ impl Register {
         if reading.value > MOST_STANDING || reading.start > MOST_STANDING {
             return Err(BookRefusal::Value);
         }
-        self.counted(reading.value, reading.start)
+        self.with_value(reading.value, reading.start)
     }
 
     // The register with the quantity of a value in its tally.
     #[tactic(auto, using(crate::proofs::Quantities::quantity_within))]
-    fn counted(self, value: u32, start: u32) -> Result<Register, BookRefusal>
+    fn with_value(self, value: u32, start: u32) -> Result<Register, BookRefusal>
         requires { value ≤ most_standing }
-        ensures { result ≡ counted value start self }
+        ensures { result ≡ with_value value start self }
     {
         let kwh = quantity(self.standing, value).ok_or(BookRefusal::Below)?;
         let tally = tally_with(self.tally, kwh as i32)?;
@@ -69,8 +73,8 @@ impl Register {
     }
 
     // The register after a correction of its tally.
-    pub(crate) fn corrected(self, kwh: i32) -> Result<Register, BookRefusal>
-        ensures { result ≡ corrected kwh self }
+    pub(crate) fn with_correction(self, kwh: i32) -> Result<Register, BookRefusal>
+        ensures { result ≡ with_correction kwh self }
     {
         if kwh.unsigned_abs() > MOST_TALLY {
             return Err(BookRefusal::Value);

@@ -2,7 +2,7 @@
 use Rattle.std.proofs.Common.{◌≤◌, [], ◌∷◌, length, codes, decimal, le_trans, arith, lit≤}
 use Rattle.fields.proofs.Widths.{digits_9, line_within, signed_9}
 use Rattle.fields.specs.Texts.{day_text}
-use Rattle.journal.specs.Lines.{Writable, line_text}
+use Rattle.journal.specs.Lines.{IsWritable, line_text}
 use Rattle.journal.specs.Words.{flow_word, zone_word}
 use Rattle.journal.specs.declared.line.Line.{Line}
 use Rattle.journal.specs.declared.line.Line.TheVariants.{Enter, Issue, Year}
@@ -22,7 +22,7 @@ flow_short Consumed = omega arith
 flow_short Delivered = omega arith
 
 -- the lines of a journal
-pub short_line : (line : Line) → Writable line → length (line_text line) ≤ 64
+pub short_line : (line : Line) → IsWritable line → length (line_text line) ≤ 64
 short_line (Enter (Reading register day value)) fine =
     le_trans
     (line_within (codes "READ") (decimal register.place ∷ zone_word register.zone ∷ flow_word register.flow ∷ decimal value ∷ codes "-" ∷ day_text day ∷ []) 4 (9 ∷ 5 ∷ 4 ∷ 9 ∷ 1 ∷ 10 ∷ [])

@@ -10,7 +10,7 @@ use Rattle.ledger.specs.declared.zone.Zone.{Zone}
 use Rattle.ledger.specs.declared.zone.Zone.TheVariants.{Day, Night}
 use Rattle.std.proofs.lemmas.Fmt.{decimal_injective, signed_decimal_injective}
 use Rattle.std.specs.Fmt.{signed_decimal}
-use Rattle.journal.specs.Lines.{Writable, kind_of, others}
+use Rattle.journal.specs.Lines.{IsWritable, kind_of, others}
 use Rattle.journal.specs.Words.{flow_word, kind_word, zone_word}
 use Rattle.journal.specs.declared.kind.Kind.{Kind}
 use Rattle.journal.specs.declared.kind.Kind.TheVariants as kinds
@@ -109,7 +109,7 @@ rebuilt_same Issue = refl
 rebuilt_same Year = refl
 
 -- two contents of a kind with the same texts rebuild the same line
-same_rebuilt : (kind : Kind) (c d : Content) → Writable (rebuilt kind c) → Writable (rebuilt kind d) → others (rebuilt kind c) ≡ others (rebuilt kind d) → rebuilt kind c ≡ rebuilt kind d
+same_rebuilt : (kind : Kind) (c d : Content) → IsWritable (rebuilt kind c) → IsWritable (rebuilt kind d) → others (rebuilt kind c) ≡ others (rebuilt kind d) → rebuilt kind c ≡ rebuilt kind d
 same_rebuilt kinds.Reading c d fine too e =
     let register : c.register ≡ d.register = same_register c.register d.register fine.0 too.0 (cc) (cc) (cc) in
     let value : c.value ≡ d.value = same_number c.value d.value fine.1 too.1 (cc) in
@@ -133,10 +133,10 @@ same_rebuilt kinds.Issue c d fine too e = refl
 same_rebuilt kinds.Year c d fine too e = refl
 
 -- two lines of the same kind with the same texts are the same
-pub same_line : (l m : Line) → Writable l → Writable m → kind_of l ≡ kind_of m → others l ≡ others m → l ≡ m
+pub same_line : (l m : Line) → IsWritable l → IsWritable m → kind_of l ≡ kind_of m → others l ≡ others m → l ≡ m
 same_line l m fine too kind e =
     let l_is = ap (λ k. rebuilt k (content l)) (sym kind) ∙ rebuilt_same l in
     let m_is = rebuilt_same m in
-    let same = same_rebuilt (kind_of m) (content l) (content m) (subst Writable (sym l_is) fine) (subst Writable (sym m_is) too)
+    let same = same_rebuilt (kind_of m) (content l) (content m) (subst IsWritable (sym l_is) fine) (subst IsWritable (sym m_is) too)
     (ap others l_is ∙ e ∙ sym (ap others m_is)) in
     sym l_is ∙ same ∙ m_is

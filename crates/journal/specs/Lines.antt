@@ -1,11 +1,11 @@
 -- The lines of a journal: what the fields of each kind must be, and the text of a line.
 use Rattle.std.specs.Prelude.{◌≡◌, ℕ, ◌≤◌, ◌⊎◌, List, [], ◌∷◌, replicate, Ok, Err, codes, decimal, Result, unsigned_abs}
-use Rattle.fields.specs.Columns.{AllRight, DateForm, Form, MissingForm, NumberForm, SignedForm}
+use Rattle.fields.specs.Columns.{AreAllRight, DateForm, Form, MissingForm, NumberForm, SignedForm}
 use Rattle.fields.specs.Rows.{line_of}
 use Rattle.fields.specs.Texts.{day_text}
 use Rattle.ledger.specs.declared.entry.Entry.TheVariants.{Change, Correction, Payment, Reading}
 use Rattle.std.specs.Fmt.{signed_decimal}
-use Rattle.journal.specs.Rows.{Fields, WrongOf}
+use Rattle.journal.specs.Rows.{AreFieldsOf, IsWrongOf}
 use Rattle.journal.specs.Words.{FlowForm, KindForm, ZoneForm, flow_word, kind_word, zone_word}
 use Rattle.journal.specs.declared.kind.Kind.{Kind}
 use Rattle.journal.specs.declared.kind.Kind.TheVariants as kinds
@@ -30,8 +30,8 @@ forms kinds.Year = replicate 6 MissingForm
 pub record HasForm (bs : List ℕ) : Type 0 where
   pub kind : Kind
   pub rest : List (List ℕ)
-  pub right : AllRight (forms kind) rest
-  pub fields : Fields (kind_word kind ∷ rest) bs
+  pub right : AreAllRight (forms kind) rest
+  pub fields : AreFieldsOf (kind_word kind ∷ rest) bs
 
 -- the kind of a line
 abbrev pub kind_of : Line → Kind
@@ -63,39 +63,39 @@ abbrev pub line_text : Line → List ℕ
 line_text line = line_of (kind_word (kind_of line) ∷ others line)
 
 -- a number of up to nine digits
-abbrev Short : ℕ → Type 0
-Short n = n ≤ 999999999
+abbrev HasNineDigits : ℕ → Type 0
+HasNineDigits n = n ≤ 999999999
 
 -- the numbers of the line have up to nine digits, and its day is one of the calendar
-abbrev pub Writable : Line → Type 0
-Writable (Enter (Reading register day value)) =
-    Short register.place × Short value × (day ≤ 36524)
-Writable (Enter (Change register day value start)) =
-    Short register.place × Short value × Short start × (day ≤ 36524)
-Writable (Enter (Correction register quantity)) =
-    Short register.place × Short (unsigned_abs quantity)
-Writable (Enter (Payment place drams)) = Short place × Short drams
-Writable Issue = Unit {0}
-Writable Year = Unit {0}
+abbrev pub IsWritable : Line → Type 0
+IsWritable (Enter (Reading register day value)) =
+    HasNineDigits register.place × HasNineDigits value × (day ≤ 36524)
+IsWritable (Enter (Change register day value start)) =
+    HasNineDigits register.place × HasNineDigits value × HasNineDigits start × (day ≤ 36524)
+IsWritable (Enter (Correction register quantity)) =
+    HasNineDigits register.place × HasNineDigits (unsigned_abs quantity)
+IsWritable (Enter (Payment place drams)) = HasNineDigits place × HasNineDigits drams
+IsWritable Issue = Unit {0}
+IsWritable Year = Unit {0}
 
 -- the number of the first of the seven fields that has not its form: that of the kind where it is no kind's word
-abbrev pub WrongAt : List (List ℕ) → ℕ → Type 0
-WrongAt [] number = ⊥
-WrongAt (first ∷ rest) number =
+abbrev pub IsWrongAt : List (List ℕ) → ℕ → Type 0
+IsWrongAt [] number = ⊥
+IsWrongAt (first ∷ rest) number =
     ((number ≡ 1) × (KindForm first → ⊥))
-    ⊎ ((kind : Kind) × ((first ≡ kind_word kind) × WrongOf (forms kind) rest number))
+    ⊎ ((kind : Kind) × ((first ≡ kind_word kind) × IsWrongOf (forms kind) rest number))
 
 -- what a refusal of the reader of a line stands for
-abbrev pub Refused : List ℕ → ReadRefusal → Type 0
-Refused bs refusals.Fields = (texts : List (List ℕ)) → Fields texts bs → ⊥
-Refused bs (refusals.Form field) = (texts : List (List ℕ)) × (Fields texts bs × WrongAt texts field)
+abbrev pub RefusesLine : List ℕ → ReadRefusal → Type 0
+RefusesLine bs refusals.Fields = (texts : List (List ℕ)) → AreFieldsOf texts bs → ⊥
+RefusesLine bs (refusals.Form field) = (texts : List (List ℕ)) × (AreFieldsOf texts bs × IsWrongAt texts field)
 
 -- the bytes are the text of this line, whose numbers and day are in range
 abbrev pub IsLine : List ℕ → Line → Type 0
-IsLine bs line = Writable line × (bs ≡ line_text line)
+IsLine bs line = IsWritable line × (bs ≡ line_text line)
 
 -- what the reader of the line with this number answers: the line whose text the bytes are, or the number and why they
 -- are no line's
-abbrev pub LineRead : List ℕ → (number : ℕ) → Result Line LineFault → Type 0
-LineRead bs number (Ok line) = IsLine bs line
-LineRead bs number (Err fault) = (fault.line ≡ number) × Refused bs fault.refusal
+abbrev pub ReadsLine : List ℕ → (number : ℕ) → Result Line LineFault → Type 0
+ReadsLine bs number (Ok line) = IsLine bs line
+ReadsLine bs number (Err fault) = (fault.line ≡ number) × RefusesLine bs fault.refusal

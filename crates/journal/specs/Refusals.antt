@@ -7,9 +7,9 @@ use Rattle.journal.specs.declared.refusal.WriteRefusal.{WriteRefusal}
 use Rattle.journal.specs.declared.refusal.WriteRefusal.TheVariants as writing
 
 -- the number of a refusal of the reader of a line
-abbrev pub read_number : ReadRefusal → ℕ
-read_number Fields = 25
-read_number (Form field) = 26
+abbrev pub read_refusal_number : ReadRefusal → ℕ
+read_refusal_number Fields = 25
+read_refusal_number (Form field) = 26
 
 -- the same refusal in words
 abbrev pub read_words : ReadRefusal → List ℕ
@@ -17,20 +17,20 @@ read_words Fields = codes "this is no whole line of seven fields"
 read_words (Form field) = codes "this is not written as its place in the line asks"
 
 -- words behind the number of their line, and behind the field where one is meant
-abbrev pub placed : (line : ℕ) → ReadRefusal → (words : List ℕ) → List ℕ
-placed line Fields words = codes "line " ++ (decimal line ++ (codes ": " ++ words))
-placed line (Form field) words =
+abbrev pub words_in_place : (line : ℕ) → ReadRefusal → (words : List ℕ) → List ℕ
+words_in_place line Fields words = codes "line " ++ (decimal line ++ (codes ": " ++ words))
+words_in_place line (Form field) words =
     codes "line "
     ++ (decimal line ++ (codes ", field " ++ (decimal field ++ (codes ": " ++ words))))
 
 -- the fault of a line in words: where and why it is not read
-abbrev pub fault_told : LineFault → List ℕ
-fault_told fault = placed fault.line fault.refusal (read_words fault.refusal)
+abbrev pub line_fault_words : LineFault → List ℕ
+line_fault_words fault = words_in_place fault.line fault.refusal (read_words fault.refusal)
 
 -- the number of a refusal of a writer of a line
-abbrev pub write_number : WriteRefusal → ℕ
-write_number writing.Form = 26
-write_number writing.Room = 27
+abbrev pub write_refusal_number : WriteRefusal → ℕ
+write_refusal_number writing.Form = 26
+write_refusal_number writing.Room = 27
 
 -- the same refusal in words
 abbrev pub write_words : WriteRefusal → List ℕ

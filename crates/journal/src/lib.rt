@@ -1,11 +1,19 @@
 //! The journal as text: what a line says, how it is read and written, and why it is refused.
 #![tactic(auto)]
 
-pub mod kind;
-pub mod line;
-pub mod names;
-pub mod read;
-pub mod refusal;
-pub mod row;
+mod kind;
+mod line;
+mod names;
+mod read;
+mod refusal;
+mod row;
 mod words;
-pub mod write;
+mod write;
+
+pub use kind::Kind;
+pub use line::Line;
+pub use names::after_names;
+pub use read::read_line;
+pub use refusal::{LineFault, ReadRefusal, WriteRefusal};
+pub use row::Row;
+pub use write::{LINE_ROOM, write_line};

@@ -1,5 +1,6 @@
 //! What a line of a journal says.
-use ledger::entry::Entry;
+
+use ledger::Entry;
 
 /// A line of a journal.
 #[derive(Clone, Copy, PartialEq, Eq, Debug)]

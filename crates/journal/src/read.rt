@@ -1,8 +1,8 @@
 //! Reads a line of a journal.
 ghost use Rattle.std.specs.Prelude.{◌≡◌, ◌↔◌, IsOk, Result};
-ghost use Rattle.journal.specs.Lines.{HasForm, LineRead};
+ghost use Rattle.journal.specs.Lines.{HasForm, ReadsLine};
 ghost use Rattle.journal.specs.Rows.{others_of, texts_of};
-ghost use Rattle.journal.specs.Steps.{ReadAs, ReadBare, RowRead};
+ghost use Rattle.journal.specs.Steps.{ReadsAs, ReadsBare, ReadsRow};
 ghost use Rattle.journal.specs.declared.kind.Kind.TheVariants as kinds;
 
 use crate::kind::Kind;
@@ -10,22 +10,21 @@ use crate::line::Line;
 use crate::refusal::{LineFault, ReadRefusal};
 use crate::row::Row;
 use crate::words::Word;
-use fields::column::{Column, Dated, Missing, Number, Signed};
-use fields::field::WrongField;
-use ledger::entry::{Entry, MemberRegister};
+use fields::{Column, Dated, Missing, Number, Signed, WrongField};
+use ledger::{Entry, MemberRegister};
 
 /// Reads the line of a journal that has this number, with its line feed as its last byte; or tells at which line, in which field and why it is none.
 pub fn read_line(text: &[u8], line: usize) -> Result<Line, LineFault>
-    ensures read { LineRead text.now line result }
+    ensures read { ReadsLine text.now line result }
     ensures exactly { IsOk result ↔ HasForm text.now }
-    ensures only { (other : Result Line LineFault) → LineRead text.now line other → other ≡ result }
+    ensures only { (other : Result Line LineFault) → ReadsLine text.now line other → other ≡ result }
 {
     line_of(text, line)
 }
 
 // The same, by the fields of the line; what else its caller promises follows from what it answers.
 fn line_of(text: &[u8], line: usize) -> Result<Line, LineFault>
-    ensures { LineRead text.now line result }
+    ensures { ReadsLine text.now line result }
 {
     let refusal = ReadRefusal::Fields;
     let row = Row::of(text, line).ok_or(LineFault { line, refusal })?;
@@ -34,7 +33,7 @@ fn line_of(text: &[u8], line: usize) -> Result<Line, LineFault>
 
 // What a row says.
 fn line_in(row: Row<'_>) -> Result<Line, WrongField>
-    ensures { RowRead row.entry.kind.line (texts_of row.entry) result }
+    ensures { ReadsRow row.entry.kind.line (texts_of row.entry) result }
 {
     let kind = Kind::read(row.kind)?;
     line_as(kind, row)
@@ -42,7 +41,7 @@ fn line_in(row: Row<'_>) -> Result<Line, WrongField>
 
 // The reading of a row. Each kind has a reader of its own, since its columns are types.
 fn reading_in(row: Row<'_>) -> Result<Line, WrongField>
-    ensures { ReadAs kinds.Reading row.entry.kind.line (others_of row.entry) result }
+    ensures { ReadsAs kinds.Reading row.entry.kind.line (others_of row.entry) result }
 {
     let (Number(place), Word(zone), Word(flow), Number(value), Missing, Dated(day)) =
         row.columns()?;
@@ -56,7 +55,7 @@ fn reading_in(row: Row<'_>) -> Result<Line, WrongField>
 
 // The meter change of a row.
 fn change_in(row: Row<'_>) -> Result<Line, WrongField>
-    ensures { ReadAs kinds.Change row.entry.kind.line (others_of row.entry) result }
+    ensures { ReadsAs kinds.Change row.entry.kind.line (others_of row.entry) result }
 {
     let (Number(place), Word(zone), Word(flow), Number(value), Number(start), Dated(day)) =
         row.columns()?;
@@ -71,7 +70,7 @@ fn change_in(row: Row<'_>) -> Result<Line, WrongField>
 
 // The correction of a row.
 fn correction_in(row: Row<'_>) -> Result<Line, WrongField>
-    ensures { ReadAs kinds.Correction row.entry.kind.line (others_of row.entry) result }
+    ensures { ReadsAs kinds.Correction row.entry.kind.line (others_of row.entry) result }
 {
     let (Number(place), Word(zone), Word(flow), Signed(quantity), Missing, Missing) =
         row.columns()?;
@@ -84,7 +83,7 @@ fn correction_in(row: Row<'_>) -> Result<Line, WrongField>
 
 // The payment of a row.
 fn payment_in(row: Row<'_>) -> Result<Line, WrongField>
-    ensures { ReadAs kinds.Payment row.entry.kind.line (others_of row.entry) result }
+    ensures { ReadsAs kinds.Payment row.entry.kind.line (others_of row.entry) result }
 {
     let (Number(place), Missing, Missing, Number(drams), Missing, Missing) = row.columns()?;
     let place = place as usize;
@@ -93,7 +92,7 @@ fn payment_in(row: Row<'_>) -> Result<Line, WrongField>
 
 // The line itself, where no field after the kind is filled.
 fn bare_line(line: Line, row: Row<'_>) -> Result<Line, WrongField>
-    ensures { ReadBare line row.entry.kind.line (others_of row.entry) result }
+    ensures { ReadsBare line row.entry.kind.line (others_of row.entry) result }
 {
     let (Missing, Missing, Missing, Missing, Missing, Missing) = row.columns()?;
     Ok(line)
@@ -101,7 +100,7 @@ fn bare_line(line: Line, row: Row<'_>) -> Result<Line, WrongField>
 
 // What a row of this kind says.
 fn line_as(kind: Kind, row: Row<'_>) -> Result<Line, WrongField>
-    ensures { ReadAs kind row.entry.kind.line (others_of row.entry) result }
+    ensures { ReadsAs kind row.entry.kind.line (others_of row.entry) result }
 {
     match kind {
         Kind::Reading => reading_in(row),

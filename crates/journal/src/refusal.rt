@@ -1,15 +1,9 @@
 //! Why a line is not read or not written.
 ghost use Rattle.std.specs.Prelude.{◌≡◌, Some};
-ghost use Rattle.journal.specs.Refusals.{
-  fault_told,
-  read_number,
-  read_words,
-  write_number,
-  write_words,
-};
+ghost use Rattle.journal.specs.Refusals.{line_fault_words, read_refusal_number, read_words, write_refusal_number, write_words};
 ghost use Rattle.journal.specs.declared.refusal.ReadRefusal.TheVariants.{Form};
 
-use fields::field::WrongField;
+use fields::WrongField;
 use std::error::Error;
 use std::fmt;
 
@@ -29,7 +23,7 @@ impl ReadRefusal {
     // A `match` is as short as a conversion to a number, and each number stands beside its case.
     /// The refusal's number.
     pub fn number(self) -> u8
-        ensures { result ≡ read_number self }
+        ensures { result ≡ read_refusal_number self }
     {
         match self {
             ReadRefusal::Fields => 25,
@@ -64,7 +58,7 @@ pub struct LineFault {
 }
 
 impl fmt::Display for LineFault {
-    ghost output = { λ fault. Some (fault_told fault) };
+    ghost output = { λ fault. Some (line_fault_words fault) };
 
     fn fmt<W: fmt::Write>(&self, f: &mut fmt::Formatter<W>) -> fmt::Result {
         let LineFault { line, refusal } = *self;
@@ -104,7 +98,7 @@ impl WriteRefusal {
     // A `match`, as in `ReadRefusal`.
     /// The refusal's number.
     pub fn number(self) -> u8
-        ensures { result ≡ write_number self }
+        ensures { result ≡ write_refusal_number self }
     {
         match self {
             WriteRefusal::Form => 26,

@@ -1,9 +1,7 @@
 //! The fields of a line.
 ghost use Rattle.std.specs.Prelude.{◌≡◌};
 
-use fields::column::Column;
-use fields::field::{Field, WrongField};
-use fields::marks::{LINE_FEED, cut_into};
+use fields::{Column, Field, LINE_FEED, WrongField, cut_into};
 
 /// The seven fields of a line of a journal.
 #[derive(Clone, Copy, Debug)]
@@ -40,12 +38,12 @@ pub struct Row<'a> {
 }
 
 impl<'a> Row<'a> {
-    ghost use Rattle.journal.specs.Rows.{SevenFields};
-    ghost use Rattle.journal.specs.Steps.{ColumnsRead, SevenParts};
+    ghost use Rattle.journal.specs.Rows.{ReadsSevenFields};
+    ghost use Rattle.journal.specs.Steps.{ReadsColumns, ReadsSevenParts};
 
     /// The fields of a line, told with this number of the line; none where it has not its line feed or not seven fields.
     pub fn of(text: &'a [u8], line: usize) -> Option<Row<'a>>
-        ensures { SevenFields text.now line result }
+        ensures { ReadsSevenFields text.now line result }
     {
         let [body @ .., LINE_FEED] = text else {
             return None;
@@ -55,7 +53,7 @@ impl<'a> Row<'a> {
 
     // The fields of a line without its line feed, or none where it has not seven.
     fn of_body(body: &'a [u8], line: usize) -> Option<Row<'a>>
-        ensures { SevenParts body.now line result }
+        ensures { ReadsSevenParts body.now line result }
     {
         let mut fields: [&[u8]; 7] = [b""; 7];
         cut_into(body, &mut fields)?;
@@ -75,7 +73,7 @@ impl<'a> Row<'a> {
     pub(crate) fn columns<A: Column, B: Column, C: Column, D: Column, E: Column, F: Column>(
         self,
     ) -> Result<(A, B, C, D, E, F), WrongField>
-        ensures { ColumnsRead self.entry A.Column.spelling B.Column.spelling C.Column.spelling
+        ensures { ReadsColumns self.entry A.Column.spelling B.Column.spelling C.Column.spelling
             D.Column.spelling E.Column.spelling F.Column.spelling result }
     {
         let member = A::read(self.member)?;

@@ -1,14 +1,13 @@
 //! The words of a journal, read and told.
 ghost use Rattle.std.specs.Prelude.{◌≡◌, ℕ, List, Contains};
 ghost use Rattle.fields.specs.Reads.{Reads};
-ghost use Rattle.fields.specs.Tokens.{WordLike};
+ghost use Rattle.fields.specs.Tokens.{LooksLikeWord};
 ghost use Rattle.std.proofs.Common.{rules};
 ghost use Rattle.journal.specs.Words.{KindForm, WordForm, flow_word, kind_word, zone_word};
 
 use crate::kind::Kind;
-use fields::column::Column;
-use fields::token::{Token, token_of};
-use ledger::zone::{Flow, Zone};
+use fields::{Column, Token, token_of};
+use ledger::{Flow, Zone};
 
 /// What is told by a word.
 pub trait Worded: Copy + 'static {
@@ -24,7 +23,7 @@ pub trait Worded: Copy + 'static {
         ensures { result.now ≡ word_of self };
 
     // No word looks like a number or a date.
-    ghost looks: { (value : Self) → WordLike (word_of value) };
+    ghost looks: { (value : Self) → LooksLikeWord (word_of value) };
 
     /// The value with this word, or none where no value has it.
     final fn of_word(word: &[u8]) -> Option<Self>

@@ -4,37 +4,36 @@ ghost use Rattle.calendar.specs.Dates.{date_of_day};
 ghost use Rattle.cells.specs.Cells.{cell_text};
 ghost use Rattle.cells.specs.declared.rows.Cell.TheVariants as cells;
 ghost use Rattle.ledger.specs.declared.entry.Entry.TheVariants as entries;
-ghost use Rattle.journal.specs.Lines.{Writable, kind_of, line_text, others};
+ghost use Rattle.journal.specs.Lines.{IsWritable, kind_of, line_text, others};
 ghost use Rattle.journal.specs.Words.{flow_word, kind_word, zone_word};
-ghost use Rattle.journal.specs.Writing.{LineWritten, ReadThenWritten, WrittenThenRead};
+ghost use Rattle.journal.specs.Writing.{WritesLine, WritesBackRead, ReadsBackWritten};
 ghost use Rattle.journal.specs.declared.line.Line.TheVariants as lines;
 
 use crate::kind::Kind;
 use crate::line::Line;
 use crate::refusal::WriteRefusal;
 use crate::words::Worded;
-use calendar::date::date_of;
-use calendar::days::{Day, LAST_DAY};
-use cells::rows::{Cell, write_row};
-use fields::column::MOST_NUMBER;
-use ledger::entry::{Entry, MemberRegister};
+use calendar::{Day, LAST_DAY, date_of};
+use cells::{Cell, write_row};
+use fields::MOST_NUMBER;
+use ledger::{Entry, MemberRegister};
 
 /// The room that the writer of a line asks for.
 pub const LINE_ROOM: usize = 64;
 
 /// Writes a line of a journal at the slice's start, and answers its length; or refuses and leaves the slice as it was.
 pub fn write_line(line: Line, out: &mut [u8]) -> Result<usize, WriteRefusal>
-    ensures written { LineWritten line out.old out.new result }
-    ensures within_64 { Writable line → length (line_text line) ≤ 64 }
-    ensures written_then_read { WrittenThenRead line out.new result }
-    ensures read_then_written { ReadThenWritten line out.old out.new result }
+    ensures written { WritesLine line out.old out.new result }
+    ensures within_64 { IsWritable line → length (line_text line) ≤ 64 }
+    ensures written_then_read { ReadsBackWritten line out.new result }
+    ensures read_then_written { WritesBackRead line out.old out.new result }
 {
     put_tested(line, out)
 }
 
 // Writes the line where its numbers and its day are in range and there is room for any; what else its caller promises follows.
 fn put_tested(line: Line, out: &mut [u8]) -> Result<usize, WriteRefusal>
-    ensures { LineWritten line out.old out.new result }
+    ensures { WritesLine line out.old out.new result }
 {
     if !is_writable(line) {
         return Err(WriteRefusal::Form);
@@ -48,7 +47,7 @@ fn put_tested(line: Line, out: &mut [u8]) -> Result<usize, WriteRefusal>
 
 // Whether the numbers of the line have up to nine digits, and its day is one of the calendar.
 fn is_writable(line: Line) -> bool
-    ensures { IsTrue result ↔ Writable line }
+    ensures { IsTrue result ↔ IsWritable line }
 {
     match line {
         Line::Enter(entry) => is_entry_writable(entry),
@@ -58,7 +57,7 @@ fn is_writable(line: Line) -> bool
 
 // The same of an entry.
 fn is_entry_writable(entry: Entry) -> bool
-    ensures { IsTrue result ↔ Writable (lines.Enter entry) }
+    ensures { IsTrue result ↔ IsWritable (lines.Enter entry) }
 {
     match entry {
         Entry::Reading {
@@ -93,7 +92,7 @@ fn is_short(n: u64) -> bool
 
 // The cells of a line, by its seven fields.
 fn cells_of(line: Line) -> [Cell<'static>; 7]
-    requires { Writable line }
+    requires { IsWritable line }
     ensures { map cell_text result ≡ kind_word (kind_of line) ∷ others line }
 {
     match line {
@@ -105,7 +104,7 @@ fn cells_of(line: Line) -> [Cell<'static>; 7]
 
 // The same of an entry.
 fn entry_cells(entry: Entry) -> [Cell<'static>; 7]
-    requires { Writable (lines.Enter entry) }
+    requires { IsWritable (lines.Enter entry) }
     ensures { let line = lines.Enter entry in
         map cell_text result ≡ kind_word (kind_of line) ∷ others line }
 {

@@ -1,7 +1,7 @@
 //! Lines of each kind with their texts.
-use journal::line::Line;
-use ledger::entry::{Entry, MemberRegister};
-use ledger::zone::{Flow, Zone};
+
+use journal::Line;
+use ledger::{Entry, Flow, MemberRegister, Zone};
 
 /// Texts of lines, and what they say.
 pub const LINES: [(&[u8], Line); 15] = [

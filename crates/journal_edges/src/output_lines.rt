@@ -1,14 +1,11 @@
 //! The lines of the output and of a fault, and the lines of names.
 use crate::slices::{BLANK, check_written};
-use group::refusal::BookRefusal;
-use ledger::bill::{Bill, YearEnd};
-use ledger::zone::ByZone;
-use journal::names::after_names;
-use journal::refusal::ReadRefusal;
-use settlement::fault::{Layer, RunFault, RunRefusal};
-use settlement::fault_line::write_fault;
-use settlement::output::{write_figures, write_names};
-use settlement::refusal::OutputRefusal;
+use group::BookRefusal;
+use journal::{ReadRefusal, after_names};
+use ledger::{Bill, ByZone, YearEnd};
+use settlement::{
+    Layer, OutputRefusal, RunFault, RunRefusal, write_fault, write_figures, write_names,
+};
 use std::process::Abort;
 use std::test::Fail;
 

@@ -1,10 +1,8 @@
 //! The parts of a text: line feeds, cuts, numbers, dates and months, and cells that are written.
 use crate::slices::{BLANK, check_written};
-use calendar::date::Date;
-use cells::rows::{Cell, write_cell};
-use fields::dates::{day, month};
-use fields::marks::{cut, cut_into, next_line_feed};
-use fields::numbers::{number, signed_number};
+use calendar::Date;
+use cells::{Cell, write_cell};
+use fields::{cut, cut_into, day, month, next_line_feed, number, signed_number};
 use std::test::Fail;
 
 // A text, a start in it, and the next line feed from there.

@@ -1,10 +1,7 @@
 //! What is read of a line, and what is refused.
 use crate::line_cases::LINES;
-use fields::token::Token;
-use journal::line::Line;
-use journal::read::read_line;
-use journal::refusal::{LineFault, ReadRefusal};
-use journal::row::Row;
+use fields::Token;
+use journal::{Line, LineFault, ReadRefusal, Row, read_line};
 use std::test::Fail;
 
 #[test]

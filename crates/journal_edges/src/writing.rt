@@ -1,11 +1,8 @@
 //! What is written of a line, and what is refused.
 use crate::line_cases::LINES;
 use crate::slices::{BLANK, check_written};
-use journal::line::Line;
-use journal::refusal::WriteRefusal;
-use journal::write::write_line;
-use ledger::entry::{Entry, MemberRegister};
-use ledger::zone::{Flow, Zone};
+use journal::{Line, WriteRefusal, write_line};
+use ledger::{Entry, Flow, MemberRegister, Zone};
 use std::test::Fail;
 
 #[test]

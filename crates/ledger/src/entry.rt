@@ -1,6 +1,6 @@
 //! What is entered into the open month.
 use crate::zone::{Flow, Zone};
-use calendar::days::Day;
+use calendar::Day;
 
 /// One of the four registers of the member at a place.
 #[derive(Clone, Copy, PartialEq, Eq, Debug)]

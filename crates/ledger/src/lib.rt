@@ -1,6 +1,10 @@
 //! The plain data of the book, declared once for the crates that share it.
 #![tactic(auto)]
 
-pub mod bill;
-pub mod entry;
-pub mod zone;
+mod bill;
+mod entry;
+mod zone;
+
+pub use bill::{Bill, YearEnd};
+pub use entry::{Entry, MemberRegister};
+pub use zone::{ByFlow, ByZone, Flow, Zone};

@@ -1,8 +1,7 @@
 //! What is entered into the book.
 use crate::members::{FAMILY, MILL, PENSIONER};
-use calendar::days::Day;
-use ledger::entry::{Entry, MemberRegister};
-use ledger::zone::{Flow, Zone};
+use calendar::Day;
+use ledger::{Entry, Flow, MemberRegister, Zone};
 
 // Days are counted from 1 January 2000: this is 15 October 2024.
 const MIDDLE: Day = 9_054;

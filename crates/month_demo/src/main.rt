@@ -5,18 +5,17 @@ mod entries;
 mod members;
 mod table;
 
-use book::book::Book;
-use calendar::days::Month;
+use book::Book;
+use calendar::Month;
 use entries::{october, too_low};
-use group::refusal::BookRefusal;
-use ledger::bill::Bill;
+use group::BookRefusal;
+use ledger::Bill;
 use members::{HOLDER, MEMBERS, TARIFF, records};
-use sharing::proportion::Proportion;
-use sharing::rule::SharingRule;
+use sharing::{Proportion, SharingRule};
 use std::io;
 use std::process::ExitCode;
 use table::{print_bills, print_carried};
-use tariff::tariff::Tariff;
+use tariff::Tariff;
 
 // Months are counted from January 2000: this is October 2024.
 const OCTOBER: Month = 297;
@@ -27,12 +26,12 @@ const GROUP: u32 = 1;
 fn main(rt: HostRuntime) -> io::Result<ExitCode> {
     // A book knows how to share a pool and what the energy costs. It is blank until it is opened.
     let mut book = Book::new(Proportion, TARIFF);
-    let mut lines = [Bill::default(); MEMBERS];
-    if let Err(refusal) = settle(&mut book, &mut lines) {
+    let mut bills = [Bill::default(); MEMBERS];
+    if let Err(refusal) = settle(&mut book, &mut bills) {
         eprintln!(rt; "refused by {}", refusal.number())?;
         return Ok(ExitCode::FAILURE);
     }
-    print_bills(&rt, &lines)?;
+    print_bills(&rt, &bills)?;
     print_carried(&rt, &book)?;
     // After the issue November is open, and every register stands where October left it.
     if let Err(refusal) = book.enter(too_low()) {
@@ -47,27 +46,27 @@ fn main(rt: HostRuntime) -> io::Result<ExitCode> {
 // Opens the group in October, enters what happened, and issues the bills.
 fn settle<R: SharingRule, T: Tariff>(
     book: &mut Book<R, T>,
-    lines: &mut [Bill],
+    bills: &mut [Bill],
 ) -> Result<(), BookRefusal> {
     book.open(GROUP, OCTOBER, HOLDER, &records())?;
     for entry in october() {
         book.enter(entry)?;
     }
-    issue(book, lines)
+    issue(book, bills)
 }
 
 // Draws the bills, and issues them if no entry came in between.
 fn issue<R: SharingRule, T: Tariff>(
     book: &mut Book<R, T>,
-    lines: &mut [Bill],
+    bills: &mut [Bill],
 ) -> Result<(), BookRefusal> {
     // Drawing alters nothing in the book: the lines can be looked over before they count.
-    let draft = book.draw(lines)?;
+    let draft = book.draw(bills)?;
     // A draft is never just dropped. It goes in and comes back here, and ends in an issue or a withdrawal.
     let (draft, current) = book.check(draft);
     if !current {
         book.withdraw(draft);
         return Err(BookRefusal::Draft);
     }
-    book.issue(draft, lines)
+    book.issue(draft, bills)
 }

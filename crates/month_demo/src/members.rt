@@ -1,9 +1,8 @@
 //! The members of the group, and what energy costs them.
-use group::member::OpeningRecord;
-use ledger::zone::{ByFlow, ByZone};
-use tariff::class::Class;
-use tariff::fixed::FixedTariff;
-use tariff::prices::{ClassPrices, Prices};
+
+use group::OpeningRecord;
+use ledger::{ByFlow, ByZone};
+use tariff::{Class, ClassPrices, FixedTariff, PriceTable};
 
 /// How many members the group has.
 pub const MEMBERS: usize = 3;
@@ -82,7 +81,7 @@ const VULNERABLE: ClassPrices = ClassPrices {
 
 /// The same prices in every month, in hundredths of a dram for each kWh.
 pub const TARIFF: FixedTariff = FixedTariff {
-    prices: Prices {
+    prices: PriceTable {
         household: HOUSEHOLD,
         other: OTHER,
         vulnerable: VULNERABLE,

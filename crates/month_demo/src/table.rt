@@ -1,29 +1,28 @@
 //! What the month came to, as text.
 use crate::members::NAMES;
-use book::book::Book;
-use ledger::bill::Bill;
-use ledger::zone::Zone;
-use sharing::rule::SharingRule;
+use book::Book;
+use ledger::{Bill, Zone};
+use sharing::SharingRule;
 use std::io;
-use tariff::tariff::Tariff;
+use tariff::Tariff;
 
 // Prints a line for each member.
-pub(crate) fn print_bills(rt: &impl Print, lines: &[Bill]) -> io::Result<()> {
+pub(crate) fn print_bills(rt: &impl Print, bills: &[Bill]) -> io::Result<()> {
     println!(rt; "October 2024     billed kWh    covered kWh         drams")?;
     println!(rt; "member           day  night     day  night    bill    debt")?;
-    for (name, line) in NAMES.iter().zip(lines) {
-        print_bill(rt, name, line)?;
+    for (name, bill) in NAMES.iter().zip(bills) {
+        print_bill(rt, name, bill)?;
     }
     Ok(())
 }
 
-fn print_bill(rt: &impl Print, name: &str, line: &Bill) -> io::Result<()> {
+fn print_bill(rt: &impl Print, name: &str, bill: &Bill) -> io::Result<()> {
     let Bill {
         billed,
         covered,
         drams,
         debt,
-    } = *line;
+    } = *bill;
     print!(rt; "{name:<13} {:>6} {:>6}", billed.day, billed.night)?;
     print!(rt; "  {:>6} {:>6}", covered.day, covered.night)?;
     println!(rt; "  {drams:>6}  {debt:>6}")

@@ -2,7 +2,7 @@
 #![tactic(auto)]
 
 use std::io;
-use two::program::settle_input;
+use two::settle_input;
 
 fn main(rt: HostRuntime) -> io::Result<()> {
     settle_input(rt)

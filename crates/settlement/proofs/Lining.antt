@@ -2,7 +2,7 @@
 use Rattle.std.proofs.Common.{◌≡◌, ◌∙◌, ℕ, zero, suc, ◌+◌, ◌<◌, List, [], ◌∷◌, ◌++◌, length, take, drop, get_or, Some, None, ⊎_elim, refl, sym, ap, ap₂, arith}
 use Rattle.std.proofs.lemmas.Bool.Decides.{eqb_tells}
 use Rattle.std.proofs.lemmas.List.{drop_all, length-take, take-append-drop, take_all}
-use Rattle.fields.specs.Marks.{Next}
+use Rattle.fields.specs.Separators.{IsNext}
 use Rattle.settlement.specs.Texts.{text_lines, onto_first}
 
 -- it ends with the first line feed
@@ -38,13 +38,13 @@ cut_at text end first rest some long front back lines = (
   lines ∙ sym (ap₂ (λ (f r : List ℕ). f ∷ text_lines r) front back),
 )
 
-pub cut_after_feed : (text : List ℕ) (i end : ℕ) (first rest : List ℕ) → Next 10 text 0 (Some i) → end ≡ i + 1 → first ≡ take end text → rest ≡ drop end text → CutOff text first rest
+pub cut_after_feed : (text : List ℕ) (i end : ℕ) (first rest : List ℕ) → IsNext 10 text 0 (Some i) → end ≡ i + 1 → first ≡ take end text → rest ≡ drop end text → CutOff text first rest
 cut_after_feed text i end first rest (low, inside, is, none) after front back =
     let here : suc i ≡ end = omega (arith, after) in
     cut_at text end first rest (omega (arith, after)) (omega (arith, inside)) front back
     (with_feed text i inside is (λ k below. none k (omega arith) below) ∙ ap (λ n. take n text ∷ text_lines (drop n text)) here)
 
-pub cut_at_end : (text : List ℕ) (end : ℕ) (first rest : List ℕ) → 0 < length text → Next 10 text 0 None → end ≡ length text → first ≡ take end text → rest ≡ drop end text → CutOff text first rest
+pub cut_at_end : (text : List ℕ) (end : ℕ) (first rest : List ℕ) → 0 < length text → IsNext 10 text 0 None → end ≡ length text → first ≡ take end text → rest ≡ drop end text → CutOff text first rest
 cut_at_end text end first rest some none whole front back =
     cut_at text end first rest (omega (arith, some, whole)) some front back
     (without_feed text some (λ k below. none k (omega arith) below)

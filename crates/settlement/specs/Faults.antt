@@ -1,10 +1,10 @@
 -- Where and why a run stops: the number, the field and the layer of each refusal, and the line that tells a fault.
 use Rattle.std.specs.Prelude.{◌≡◌, ℕ, ◌<◌, ◌≤◌, List, [], ◌∷◌, ◌++◌, length, None, Option, Some, Ok, Err, codes, decimal, Result}
 use Rattle.std.specs.Option.{unwrap_or}
-use Rattle.cells.specs.Cells.{overwritten}
+use Rattle.cells.specs.Cells.{overwritten_text}
 use Rattle.fields.specs.Rows.{line_of}
-use Rattle.group.specs.Refusals.{meaning, number_of as book_number}
-use Rattle.journal.specs.Refusals.{read_number, read_words}
+use Rattle.group.specs.Refusals.{meaning, book_refusal_number as book_number}
+use Rattle.journal.specs.Refusals.{read_refusal_number, read_words}
 use Rattle.journal.specs.declared.refusal.ReadRefusal.TheVariants.{Fields, Form}
 use Rattle.settlement.specs.declared.fault.Layer.{Layer}
 use Rattle.settlement.specs.declared.fault.Layer.TheVariants as layers
@@ -15,11 +15,11 @@ use Rattle.settlement.specs.declared.refusal.OutputRefusal.{OutputRefusal}
 use Rattle.settlement.specs.declared.refusal.OutputRefusal.TheVariants as output
 
 -- the number of a refusal
-abbrev pub number_of : RunRefusal → ℕ
-number_of Journal = 24
-number_of (Line refusal) = read_number refusal
-number_of (Book refusal) = book_number refusal
-number_of Room = 27
+abbrev pub run_refusal_number : RunRefusal → ℕ
+run_refusal_number Journal = 24
+run_refusal_number (Line refusal) = read_refusal_number refusal
+run_refusal_number (Book refusal) = book_number refusal
+run_refusal_number Room = 27
 
 -- the same refusal in words
 abbrev pub words_of : RunRefusal → List ℕ
@@ -49,16 +49,16 @@ fault_at line refusal =
     record { line = line; field = field_of refusal; layer = layer_of refusal; refusal = refusal }
 
 -- words behind their line, and behind the field where one is meant
-abbrev placed : (line : ℕ) → (field : Option ℕ) → (words : List ℕ) → List ℕ
-placed line None words = codes "line " ++ (decimal line ++ (codes ": " ++ words))
-placed line (Some field) words =
+abbrev words_in_place : (line : ℕ) → (field : Option ℕ) → (words : List ℕ) → List ℕ
+words_in_place line None words = codes "line " ++ (decimal line ++ (codes ": " ++ words))
+words_in_place line (Some field) words =
     codes "line " ++ (decimal line ++ (codes ", field " ++ (decimal field ++ (codes ": " ++ words))))
 
 -- a fault in words, with the number of its refusal
-abbrev pub fault_told : RunFault → List ℕ
-fault_told fault =
-    placed fault.line fault.field
-    (words_of fault.refusal ++ (codes " (" ++ (decimal (number_of fault.refusal) ++ codes ")")))
+abbrev pub run_fault_words : RunFault → List ℕ
+run_fault_words fault =
+    words_in_place fault.line fault.field
+    (words_of fault.refusal ++ (codes " (" ++ (decimal (run_refusal_number fault.refusal) ++ codes ")")))
 
 -- the word of a layer
 abbrev pub layer_word : Layer → List ℕ
@@ -70,10 +70,10 @@ abbrev pub fault_line : RunFault → List ℕ
 fault_line fault =
     line_of
     (codes "FAULT" ∷ decimal fault.line ∷ decimal (unwrap_or fault.field 0) ∷ layer_word fault.layer
-    ∷ decimal (number_of fault.refusal) ∷ [])
+    ∷ decimal (run_refusal_number fault.refusal) ∷ [])
 
 -- what the writer of a fault answers and leaves: it refuses a slice under 64 bytes
-abbrev pub FaultWritten : RunFault → List ℕ → List ℕ → Result ℕ OutputRefusal → Type 0
-FaultWritten fault old new (Ok end) =
-    (64 ≤ length old) × (end ≡ length (fault_line fault)) × (new ≡ overwritten old 0 (fault_line fault))
-FaultWritten fault old new (Err output.Room) = (length old < 64) × (new ≡ old)
+abbrev pub WritesFault : RunFault → List ℕ → List ℕ → Result ℕ OutputRefusal → Type 0
+WritesFault fault old new (Ok end) =
+    (64 ≤ length old) × (end ≡ length (fault_line fault)) × (new ≡ overwritten_text old 0 (fault_line fault))
+WritesFault fault old new (Err output.Room) = (length old < 64) × (new ≡ old)

@@ -1,19 +1,19 @@
 -- What a run does, by the lines of the journal: which it accepts, what these write, and where the calls that they make lead.
 use Rattle.std.specs.Prelude.{◌≡◌, ℕ, List, [], ◌++◌, length, IsSomeAnd, ◌⊎◌}
 use Rattle.std.specs.List.{concat}
-use Rattle.balance.specs.Balances.{BalancedThroughout, LeadsTo}
+use Rattle.balance.specs.Balances.{IsBalancedThroughout, LeadsTo}
 use Rattle.balance.specs.Histories.{Event}
-use Rattle.cells.specs.Cells.{Put}
+use Rattle.cells.specs.Cells.{Puts}
 use Rattle.group.specs.declared.group.Group.{Group}
 use Rattle.journal.specs.declared.line.Line.{Line}
 use Rattle.group.specs.Books.{BookState}
 use Rattle.group.specs.Months.{Prices, Share}
-use Rattle.settlement.specs.Accepting.{Accepted, ReadFirst}
+use Rattle.settlement.specs.Accepting.{AcceptsInTurn, ReadsFirst}
 use Rattle.settlement.specs.Laws.{StopsBehind}
 use Rattle.settlement.specs.Output.{output_names}
 use Rattle.settlement.specs.Runs.{IsJournal}
 use Rattle.settlement.specs.Texts.{text_lines}
-use Rattle.settlement.specs.declared.run.Outcome.{Outcome}
+use Rattle.settlement.specs.declared.runs.Outcome.{Outcome}
 
 -- the run stopped at line 1: it accepted no line and wrote nothing
 pub record WritesNothing (lines : List Line) (old : List ℕ) (answer : Outcome) (new : List ℕ) : Type 0 where
@@ -27,16 +27,16 @@ pub record WritesNothing (lines : List Line) (old : List ℕ) (answer : Outcome)
 pub record WritesInOrder (journal : List ℕ) (lines : List Line) (texts : List (List ℕ)) (old : List ℕ) (answer : Outcome) (new : List ℕ) : Type 0 where
   pub body : List ℕ
   pub begins : IsJournal journal body
-  pub read : ReadFirst (text_lines body) lines
+  pub read : ReadsFirst (text_lines body) lines
   pub stop : StopsBehind 2 (length lines) (length (text_lines body)) answer.fault
-  pub output : Put old 0 (output_names ++ concat texts) new answer.written
+  pub output : Puts old 0 (output_names ++ concat texts) new answer.written
 
 -- a run accepts these lines of the journal, which make these calls, and writes what these lines write
 pub record AcceptsLines (share : Share) (prices : ℕ → Prices) (journal : List ℕ) (old : List ℕ × Group) (answer : Outcome) (new : List ℕ × Group) : Type 0 where
   pub lines : List Line
   pub texts : List (List ℕ)
   pub calls : List Event
-  pub accepted : Accepted share prices lines old.1 texts calls new.1
+  pub accepted : AcceptsInTurn share prices lines old.1 texts calls new.1
   pub written : WritesNothing lines old.0 answer new.0 ⊎ WritesInOrder journal lines texts old.0 answer new.0
 
 -- and every history that leads to the book as it was leads with the calls of these lines to the book as it is, and balances,
@@ -45,4 +45,4 @@ pub record LeadsOnBalanced {R T : Type 0} (share : R → Share) (prices : T → 
   pub order : AcceptsLines (share old.1.rule) (prices old.1.tariff) journal (old.0, old.1.group) answer (new.0, new.1.group)
   pub balanced : (history : List Event) → LeadsTo share prices history old.1
       → LeadsTo share prices (order.calls ++ history) new.1
-      × BalancedThroughout (share new.1.rule) (prices new.1.tariff) (order.calls ++ history) new.1.group
+      × IsBalancedThroughout (share new.1.rule) (prices new.1.tariff) (order.calls ++ history) new.1.group

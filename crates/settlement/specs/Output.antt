@@ -1,6 +1,6 @@
 -- The lines of the output, and what their writers answer and leave.
 use Rattle.std.specs.Prelude.{◌≡◌, ℕ, ◌+◌, ◌<◌, ◌≤◌, List, [], ◌∷◌, length, Ok, Err, codes, decimal, Result}
-use Rattle.cells.specs.Cells.{overwritten}
+use Rattle.cells.specs.Cells.{overwritten_text}
 use Rattle.fields.specs.Rows.{line_of}
 use Rattle.fields.specs.Texts.{month_text}
 use Rattle.ledger.specs.declared.bill.Bill.{Bill}
@@ -10,8 +10,8 @@ use Rattle.settlement.specs.declared.refusal.OutputRefusal.{OutputRefusal}
 use Rattle.settlement.specs.declared.refusal.OutputRefusal.TheVariants.{Room}
 
 -- the number of a refusal
-abbrev pub output_number : OutputRefusal → ℕ
-output_number Room = 27
+abbrev pub output_refusal_number : OutputRefusal → ℕ
+output_refusal_number Room = 27
 
 -- the same refusal in words
 abbrev pub output_words : OutputRefusal → List ℕ
@@ -36,6 +36,6 @@ year_line month place year =
     ∷ codes "-" ∷ codes "-" ∷ signed_decimal year.drams ∷ signed_decimal year.debt ∷ [])
 
 -- what the writer of a text at a place of the output answers and leaves: it refuses exactly where the text does not fit
-abbrev pub TextWritten : List ℕ → ℕ → List ℕ → List ℕ → Result ℕ OutputRefusal → Type 0
-TextWritten text at old new (Ok end) = (end ≡ at + length text) × (end ≤ length old) × (new ≡ overwritten old at text)
-TextWritten text at old new (Err Room) = (length old < at + length text) × (new ≡ old)
+abbrev pub WritesText : List ℕ → ℕ → List ℕ → List ℕ → Result ℕ OutputRefusal → Type 0
+WritesText text at old new (Ok end) = (end ≡ at + length text) × (end ≤ length old) × (new ≡ overwritten_text old at text)
+WritesText text at old new (Err Room) = (length old < at + length text) × (new ≡ old)

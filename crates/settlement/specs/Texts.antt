@@ -36,8 +36,8 @@ abbrev pub bills_text : (month : ℕ) → List Bill → List ℕ
 bills_text month bills = concat (by_place (bill_line month) 0 bills)
 
 -- the first line of a text and what follows it, or none where there is no text
-abbrev pub NextLine : (text : List ℕ) → Option (Bor (List ℕ) × Bor (List ℕ)) → Type 0
-NextLine text r =
+abbrev pub IsNextLine : (text : List ℕ) → Option (Bor (List ℕ) × Bor (List ℕ)) → Type 0
+IsNextLine text r =
     MatchOption r (text ≡ [])
     (λ parts.
     (text ≡ parts.0.now ++ parts.1.now) × (0 < length parts.0.now)

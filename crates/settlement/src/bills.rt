@@ -1,12 +1,12 @@
 //! The lines of the output that a line of a journal writes.
 ghost use Rattle.std.specs.Prelude.{◌≡◌, ◌+◌, ◌<◌, ◌≤◌, Some, length, slice_get};
-ghost use Rattle.cells.specs.Cells.{overwritten};
+ghost use Rattle.cells.specs.Cells.{overwritten_text};
 ghost use Rattle.settlement.specs.Steps.{output_room};
 ghost use Rattle.settlement.specs.Texts.{bills_text};
 
 use crate::output::{Figures, write_figures};
-use calendar::days::Month;
-use ledger::bill::Bill;
+use calendar::Month;
+use ledger::Bill;
 
 // Writes the line of a member's figures from `at` on, where any such line has room, and answers the place after it.
 pub(crate) fn write_whole<F: Figures>(
@@ -18,7 +18,7 @@ pub(crate) fn write_whole<F: Figures>(
 ) -> usize
     requires { at + 128 ≤ length out.old }
     ensures end { result ≡ at + length (F.Figures.line month place figures) }
-    ensures text { out.new ≡ overwritten out.old at (F.Figures.line month place figures) }
+    ensures text { out.new ≡ overwritten_text out.old at (F.Figures.line month place figures) }
     ensures within_128 { length (F.Figures.line month place figures) ≤ 128 }
 {
     let Ok(end) = write_figures(month, place, figures, out, at) else {
@@ -40,7 +40,7 @@ pub(crate) fn write_bills(month: Month, bills: &[Bill], out: &mut [u8], at: usiz
     requires few { length bills.now ≤ 32 }
     requires room { at + output_room ≤ length out.old }
     ensures end { result ≡ at + length (bills_text month bills.now) }
-    ensures text { out.new ≡ overwritten out.old at (bills_text month bills.now) }
+    ensures text { out.new ≡ overwritten_text out.old at (bills_text month bills.now) }
     ensures within_room { length (bills_text month bills.now) ≤ output_room }
 {
     let mut end = at;

@@ -1,17 +1,10 @@
 //! Where and why a run stops.
 ghost use Rattle.std.specs.Prelude.{◌≡◌, Some};
-ghost use Rattle.settlement.specs.Faults.{
-  fault_at,
-  fault_told,
-  field_of,
-  layer_of,
-  number_of,
-  words_of,
-};
+ghost use Rattle.settlement.specs.Faults.{fault_at, run_fault_words, field_of, layer_of, run_refusal_number, words_of};
 ghost use Rattle.settlement.specs.declared.fault.RunRefusal.TheVariants as refused;
 
-use group::refusal::BookRefusal;
-use journal::refusal::{LineFault, ReadRefusal};
+use group::BookRefusal;
+use journal::{LineFault, ReadRefusal};
 use std::error::Error;
 use std::fmt;
 
@@ -43,7 +36,7 @@ pub enum RunRefusal {
 impl RunRefusal {
     /// The refusal's number.
     pub fn number(self) -> u8
-        ensures { result ≡ number_of self }
+        ensures { result ≡ run_refusal_number self }
     {
         match self {
             RunRefusal::Journal => 24,
@@ -121,7 +114,7 @@ impl RunFault {
 }
 
 impl fmt::Display for RunFault {
-    ghost output = { λ fault. Some (fault_told fault) };
+    ghost output = { λ fault. Some (run_fault_words fault) };
 
     fn fmt<W: fmt::Write>(&self, f: &mut fmt::Formatter<W>) -> fmt::Result {
         let RunFault {

@@ -1,10 +1,10 @@
 //! The line of a fault.
 ghost use Rattle.std.specs.Prelude.{◌≡◌, ◌≤◌, length};
-ghost use Rattle.settlement.specs.Faults.{FaultWritten, fault_line, layer_word};
+ghost use Rattle.settlement.specs.Faults.{WritesFault, fault_line, layer_word};
 
 use crate::fault::{Layer, RunFault};
 use crate::refusal::OutputRefusal;
-use cells::rows::{Cell, write_row};
+use cells::{Cell, write_row};
 
 /// The room that the writer of a fault asks for.
 pub const FAULT_ROOM: usize = 64;
@@ -12,7 +12,7 @@ pub const FAULT_ROOM: usize = 64;
 /// Writes the line of a fault at the slice's start, and answers its length; or refuses a slice shorter than `FAULT_ROOM`, and leaves it as it was.
 #[tactic(auto, using(crate::proofs::Lengths::lengths))]
 pub fn write_fault(fault: RunFault, out: &mut [u8]) -> Result<usize, OutputRefusal>
-    ensures written { FaultWritten fault out.old out.new result }
+    ensures written { WritesFault fault out.old out.new result }
     ensures within_64 { length (fault_line fault) ≤ 64 }
 {
     if out.len() < FAULT_ROOM {

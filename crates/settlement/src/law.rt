@@ -1,12 +1,5 @@
 //! What holds of every run, as laws.
-ghost use Rattle.settlement.specs.Laws.{
-  JournalsGoOn,
-  LinesMakeText,
-  OneOutcome,
-  OutputInOrder,
-  RunsGoOn,
-  RunsStop,
-};
+ghost use Rattle.settlement.specs.Laws.{JournalsGoOn, LinesMakeText, HasOneOutcome, OutputIsInOrder, RunsGoOn, RunsStop};
 
 /// The lines of a text, joined, are the text; a line feed stands only at the end of a line, and at the end of each but perhaps the last.
 pub fn lines_make_text()
@@ -15,7 +8,7 @@ pub fn lines_make_text()
 
 /// The output of a run is the line of names and then the texts of the issues and year closings before its fault, in order; or it stops at line 1 and writes nothing.
 pub fn output_in_order()
-    ensures { OutputInOrder }
+    ensures { OutputIsInOrder }
 {}
 
 /// Lines that are run to their end and more lines from there are one run of all of them.
@@ -35,5 +28,5 @@ pub fn journals_go_on()
 
 /// A run comes to one thing alone.
 pub fn one_outcome()
-    ensures { OneOutcome }
+    ensures { HasOneOutcome }
 {}

@@ -2,18 +2,18 @@
 ghost use Rattle.std.specs.Prelude.{◌≡◌, ℕ, ◌≤◌, List, length, map};
 ghost use Rattle.cells.specs.Cells.{cell_text};
 ghost use Rattle.fields.specs.Rows.{line_of};
-ghost use Rattle.settlement.specs.Output.{TextWritten, bill_line, output_names, year_line};
+ghost use Rattle.settlement.specs.Output.{WritesText, bill_line, output_names, year_line};
 
 use crate::refusal::OutputRefusal;
-use calendar::days::Month;
-use cells::rows::{Cell, write_cell, write_row};
-use ledger::bill::{Bill, YearEnd};
+use calendar::Month;
+use cells::{Cell, write_cell, write_row};
+use ledger::{Bill, YearEnd};
 
 const NAMES: &[u8] = b"line,month,place,dayb,nightb,dayc,nightc,drams,debt\n";
 
 /// Writes the line of names of the output from `at` on, and answers the place after it; or refuses, with the slice as it was, exactly where there is no room.
 pub fn write_names(out: &mut [u8], at: usize) -> Result<usize, OutputRefusal>
-    ensures { TextWritten output_names at out.old out.new result }
+    ensures { WritesText output_names at out.old out.new result }
 {
     write_cell(Cell::Word(NAMES), out, at).ok_or(OutputRefusal::Room)
 }
@@ -77,7 +77,7 @@ pub fn write_figures<F: Figures>(
     out: &mut [u8],
     at: usize,
 ) -> Result<usize, OutputRefusal>
-    ensures written { TextWritten (F.line month place figures) at out.old out.new result }
+    ensures written { WritesText (F.line month place figures) at out.old out.new result }
     ensures within_128 { length (F.line month place figures) ≤ 128 }
 {
     write_row(&figures.cells(month, place), out, at).ok_or(OutputRefusal::Room)

@@ -1,6 +1,6 @@
 //! Why a line of the output is not written.
 ghost use Rattle.std.specs.Prelude.{◌≡◌, Some};
-ghost use Rattle.settlement.specs.Output.{output_number, output_words};
+ghost use Rattle.settlement.specs.Output.{output_refusal_number, output_words};
 
 use std::error::Error;
 use std::fmt;
@@ -16,7 +16,7 @@ impl OutputRefusal {
     // A `match` is as short as a conversion to a number, and the number stands beside its case.
     /// The refusal's number.
     pub fn number(self) -> u8
-        ensures { result ≡ output_number self }
+        ensures { result ≡ output_refusal_number self }
     {
         match self {
             OutputRefusal::Room => 27,

@@ -1,14 +1,13 @@
 //! A group with what it is settled by, from which a book is opened.
 ghost use Rattle.std.specs.Prelude.{◌≡◌};
-ghost use Rattle.settlement.specs.Setups.{BookOpened, JournalSettled};
+ghost use Rattle.settlement.specs.Setups.{OpensBook, SettlesJournal};
 
-use crate::run::{Outcome, run};
-use book::book::Book;
-use calendar::days::Month;
-use group::member::OpeningRecord;
-use group::refusal::BookRefusal;
-use sharing::rule::SharingRule;
-use tariff::tariff::Tariff;
+use crate::runs::{Outcome, run};
+use book::Book;
+use calendar::Month;
+use group::{BookRefusal, OpeningRecord};
+use sharing::SharingRule;
+use tariff::Tariff;
 
 /// A group as its book opens, with the rule and the tariff that settle it.
 #[derive(Drop, Debug)]
@@ -30,7 +29,7 @@ pub struct Setup<'a, R, T> {
 impl<R: SharingRule + Drop, T: Tariff + Drop> Setup<'_, R, T> {
     /// A book of the group, with its first month open.
     pub fn open(self) -> Result<Book<R, T>, BookRefusal>
-        ensures opened { BookOpened R.SharingRule.sharing T.Tariff.price self.entry result }
+        ensures opened { OpensBook R.SharingRule.sharing T.Tariff.price self.entry result }
     {
         let mut book = Book::new(self.rule, self.tariff);
         book.open(self.number, self.start, self.holder, self.records)?;
@@ -44,7 +43,7 @@ pub fn settle<R: SharingRule + Drop, T: Tariff + Drop>(
     journal: &[u8],
     out: &mut [u8],
 ) -> Result<Outcome, BookRefusal>
-    ensures { JournalSettled R.SharingRule.sharing T.Tariff.price
+    ensures { SettlesJournal R.SharingRule.sharing T.Tariff.price
         setup.entry journal.now out.old result out.new }
 {
     let mut book = setup.open()?;

@@ -1,19 +1,17 @@
 //! What a line of a journal does to a book and to the output.
 ghost use Rattle.std.specs.Prelude.{◌≡◌, ◌≤◌, IfOk, length};
 ghost use Rattle.journal.specs.declared.line.Line.TheVariants as lines;
-ghost use Rattle.settlement.specs.Steps.{LineDone, RoomChecked, TextDone, output_room};
-ghost use Rattle.group.specs.Books.{SameTerms};
+ghost use Rattle.settlement.specs.Steps.{DoesLine, ChecksRoom, DoesText, output_room};
+ghost use Rattle.group.specs.Books.{KeepsTerms};
 
 use crate::bills::{write_bills, write_whole};
 use crate::fault::{NO_LINE, RunFault, RunRefusal};
-use book::book::Book;
-use group::group::Phase;
-use journal::line::Line;
-use journal::read::read_line;
-use ledger::bill::Bill;
-use ledger::entry::Entry;
-use sharing::rule::{PLACES, SharingRule};
-use tariff::tariff::Tariff;
+use book::Book;
+use group::Phase;
+use journal::{Line, read_line};
+use ledger::{Bill, Entry};
+use sharing::{PLACES, SharingRule};
+use tariff::Tariff;
 
 // The bytes that the output must have left where a line writes.
 pub(crate) const OUTPUT_ROOM: usize = 4_096;
@@ -25,9 +23,9 @@ fn enter<R: SharingRule, T: Tariff>(
     out: &mut [u8],
     at: usize,
 ) -> Result<usize, RunFault>
-    ensures done { LineDone (R.SharingRule.sharing book.old.rule) (T.Tariff.price book.old.tariff)
+    ensures done { DoesLine (R.SharingRule.sharing book.old.rule) (T.Tariff.price book.old.tariff)
         (lines.Enter entry) at (out.old, book.old.group) result (out.new, book.new.group) }
-    ensures terms { SameTerms book.old book.new }
+    ensures terms { KeepsTerms book.old book.new }
 {
     book.enter(entry)?;
     Ok(at)
@@ -35,7 +33,7 @@ fn enter<R: SharingRule, T: Tariff>(
 
 // Whether so much room is left as a run asks for where it writes.
 pub(crate) fn check_room(room: usize) -> Result<(), RunFault>
-    ensures answer { RoomChecked room result }
+    ensures answer { ChecksRoom room result }
     ensures room { IfOk result (λ _. output_room ≤ room) }
 {
     if room < OUTPUT_ROOM {
@@ -51,9 +49,9 @@ fn close_year<R: SharingRule, T: Tariff>(
     at: usize,
 ) -> Result<usize, RunFault>
     requires { at ≤ length out.old }
-    ensures done { LineDone (R.SharingRule.sharing book.old.rule) (T.Tariff.price book.old.tariff)
+    ensures done { DoesLine (R.SharingRule.sharing book.old.rule) (T.Tariff.price book.old.tariff)
         lines.Year at (out.old, book.old.group) result (out.new, book.new.group) }
-    ensures terms { SameTerms book.old book.new }
+    ensures terms { KeepsTerms book.old book.new }
     ensures inside { IfOk result (λ end. end ≤ length out.new) }
 {
     book.year_end()?;
@@ -73,9 +71,9 @@ fn issue<R: SharingRule, T: Tariff>(
     at: usize,
 ) -> Result<usize, RunFault>
     requires { at ≤ length out.old }
-    ensures done { LineDone (R.SharingRule.sharing book.old.rule) (T.Tariff.price book.old.tariff)
+    ensures done { DoesLine (R.SharingRule.sharing book.old.rule) (T.Tariff.price book.old.tariff)
         lines.Issue at (out.old, book.old.group) result (out.new, book.new.group) }
-    ensures terms { SameTerms book.old book.new }
+    ensures terms { KeepsTerms book.old book.new }
     ensures inside { IfOk result (λ end. end ≤ length out.new) }
 {
     let mut bills = [Bill::default(); PLACES];
@@ -98,9 +96,9 @@ pub(crate) fn carry_out<R: SharingRule, T: Tariff>(
     at: usize,
 ) -> Result<usize, RunFault>
     requires { at ≤ length out.old }
-    ensures done { LineDone (R.SharingRule.sharing book.old.rule) (T.Tariff.price book.old.tariff)
+    ensures done { DoesLine (R.SharingRule.sharing book.old.rule) (T.Tariff.price book.old.tariff)
         line at (out.old, book.old.group) result (out.new, book.new.group) }
-    ensures terms { SameTerms book.old book.new }
+    ensures terms { KeepsTerms book.old book.new }
     ensures inside { IfOk result (λ end. end ≤ length out.new) }
 {
     match line {
@@ -119,9 +117,9 @@ pub(crate) fn run_line<R: SharingRule, T: Tariff>(
     at: usize,
 ) -> Result<usize, RunFault>
     requires { at ≤ length out.old }
-    ensures done { TextDone (R.SharingRule.sharing book.old.rule) (T.Tariff.price book.old.tariff)
+    ensures done { DoesText (R.SharingRule.sharing book.old.rule) (T.Tariff.price book.old.tariff)
         text.now number at (out.old, book.old.group) result (out.new, book.new.group) }
-    ensures terms { SameTerms book.old book.new }
+    ensures terms { KeepsTerms book.old book.new }
     ensures inside { IfOk result (λ end. end ≤ length out.new) }
 {
     let line = read_line(text, number)?;

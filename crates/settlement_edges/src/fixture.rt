@@ -1,20 +1,13 @@
 //! A small group with its prices, journals of lines, and what the tests see of a run.
-use book::book::Book;
-use calendar::days::Month;
-use group::group::Phase;
-use group::member::{Member, OpeningRecord};
-use group::refusal::BookRefusal;
-use ledger::bill::YearEnd;
-use ledger::zone::{ByFlow, ByZone, Zone};
-use settlement::fault::{Layer, RunFault, RunRefusal};
-use settlement::run::{Outcome, run};
-use settlement::setup::Setup;
-use sharing::proportion::Proportion;
+use book::Book;
+use calendar::Month;
+use group::{BookRefusal, Member, OpeningRecord, Phase};
+use ledger::{ByFlow, ByZone, YearEnd, Zone};
+use settlement::{Layer, Outcome, RunFault, RunRefusal, Setup, run};
+use sharing::Proportion;
 use std::process::Abort;
 use std::test::Fail;
-use tariff::class::Class;
-use tariff::fixed::FixedTariff;
-use tariff::prices::{ClassPrices, Prices};
+use tariff::{Class, ClassPrices, FixedTariff, PriceTable};
 
 /// January 2024.
 pub const JANUARY: Month = 288;
@@ -51,7 +44,7 @@ pub(crate) fn tariff(energy: ByZone<u32>, distribution: u32, year_end: ByZone<u3
         year_end,
     };
     FixedTariff {
-        prices: Prices {
+        prices: PriceTable {
             household: prices,
             other: prices,
             vulnerable: prices,

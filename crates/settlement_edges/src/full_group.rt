@@ -3,14 +3,13 @@ use crate::fixture::{
     ISSUE, JANUARY, MARK, OUTPUT_NAMES, PlainBook, YEAR, check_fault, check_output, debt, journal,
     of_book, plain_tariff, record, runs, tariff,
 };
-use group::refusal::BookRefusal;
-use ledger::zone::ByZone;
-use settlement::run::run;
-use settlement::setup::Setup;
-use sharing::proportion::Proportion;
+use group::BookRefusal;
+use ledger::ByZone;
+use settlement::{Setup, run};
+use sharing::Proportion;
 use std::process::Abort;
 use std::test::Fail;
-use tariff::fixed::FixedTariff;
+use tariff::FixedTariff;
 
 // A book of 32 members, of whom the last is the holder.
 fn open(rt: &impl Abort, tariff: FixedTariff) -> PlainBook {

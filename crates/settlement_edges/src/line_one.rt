@@ -3,9 +3,8 @@ use crate::fixture::{
     ISSUE, JANUARY, MARK, NAMES, OUTPUT_NAMES, PAYMENT, check_fault, check_output, debt, journal,
     of_text, open, runs, stops_at_line_1,
 };
-use journal::refusal::ReadRefusal;
-use settlement::fault::RunRefusal;
-use settlement::run::run;
+use journal::ReadRefusal;
+use settlement::{RunRefusal, run};
 use std::process::Abort;
 use std::test::Fail;
 

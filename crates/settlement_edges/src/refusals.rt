@@ -3,13 +3,12 @@ use crate::fixture::{
     DECEMBER, ISSUE, JANUARY, MARK, OUTPUT_NAMES, PAYMENT, PlainBook, Stop, YEAR, check_fault,
     check_output, journal, of_book, of_text, plain_tariff, seen, stops,
 };
-use book::book::Book;
-use calendar::days::Month;
-use group::refusal::BookRefusal;
-use journal::refusal::ReadRefusal;
-use settlement::fault::RunRefusal;
-use settlement::run::run;
-use sharing::proportion::Proportion;
+use book::Book;
+use calendar::Month;
+use group::BookRefusal;
+use journal::ReadRefusal;
+use settlement::{RunRefusal, run};
+use sharing::Proportion;
 use std::test::Fail;
 
 // What a journal goes on with where its first line has not its line feed or not seven fields, and is wrong in a field as well.

@@ -3,11 +3,10 @@ use crate::fixture::{
     DECEMBER, ISSUE, JANUARY, MARK, OUTPUT_NAMES, PAYMENT, PlainBook, Stop, YEAR, check_fault,
     check_output, journal, of_book, of_text, open, runs, seen,
 };
-use calendar::days::Month;
-use group::refusal::BookRefusal;
-use journal::refusal::ReadRefusal;
-use settlement::fault::RunRefusal;
-use settlement::run::run;
+use calendar::Month;
+use group::BookRefusal;
+use journal::ReadRefusal;
+use settlement::{RunRefusal, run};
 use std::process::Abort;
 use std::test::Fail;
 

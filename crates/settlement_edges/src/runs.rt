@@ -3,12 +3,11 @@ use crate::fixture::{
     Answers, DECEMBER, ISSUE, JANUARY, MARK, OUTPUT_NAMES, PlainBook, YEAR, check_fault,
     check_output, debt, journal, of_text, open, runs, seen,
 };
-use journal::refusal::ReadRefusal;
-use settlement::fault::RunRefusal;
-use settlement::run::run;
+use journal::ReadRefusal;
+use settlement::{RunRefusal, run};
 use std::process::Abort;
 use std::test::Fail;
-use two::two::settle_two;
+use two::settle_two;
 
 // The second member needs 1,000 kWh by day and 33 by night, and the first has 700 over by day.
 const MONTH: &[u8] = b"READ,1,DAY,USE,1000,-,2024-01-31

@@ -2,11 +2,10 @@
 use crate::fixture::{
     ISSUE, JANUARY, MARK, OUTPUT_NAMES, check_output, journal, plain_tariff, record, setup,
 };
-use calendar::days::Month;
-use group::group::Phase;
-use group::refusal::BookRefusal;
-use settlement::setup::{Setup, settle};
-use sharing::proportion::Proportion;
+use calendar::Month;
+use group::{BookRefusal, Phase};
+use settlement::{Setup, settle};
+use sharing::Proportion;
 use std::test::Fail;
 
 // How many records there are, the start month, the holder's place, the capacity of each, what every register stands at, and the refusal with its number.

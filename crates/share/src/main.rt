@@ -1,7 +1,7 @@
 // Prints, for the question on standard input, what each sharing rule gives every place.
 #![tactic(auto)]
 
-use comparison::report::report;
+use comparison::report;
 use std::io;
 use std::io::Read;
 use std::process::ExitCode;

@@ -7,7 +7,7 @@ use Rattle.std.proofs.lemmas.List.{get_or_past}
 use Rattle.std.proofs.lemmas.List.Elements.{All-from_get_or}
 use Rattle.std.proofs.lemmas.List.Sums.{sum_by-le}
 use Rattle.std.proofs.lemmas.List.Folds.{list_any_at, list_any_none}
-use Rattle.sharing.specs.Refusals.{answer, some_over}
+use Rattle.sharing.specs.Refusals.{answer, some_need_over}
 
 -- the call is not refused
 pub record Admitted (pool : ℕ) (needs : List ℕ) (places : ℕ) : Type 0 where
@@ -17,10 +17,10 @@ pub record Admitted (pool : ℕ) (needs : List ℕ) (places : ℕ) : Type 0 wher
   pub pool_within : pool ≤ 1000000000
   pub needs_within : (place : ℕ) → get_or needs place 0 ≤ 2000000
 
-over_none : (needs : List ℕ) → some_over needs ≡ false → (place : ℕ) → get_or needs place 0 ≤ 2000000
+over_none : (needs : List ℕ) → some_need_over needs ≡ false → (place : ℕ) → get_or needs place 0 ≤ 2000000
 over_none needs none place = grind (arith, nat_tests, list_any_at (nat_lt 2000000) needs place 0, get_or_past needs place 0)
 
-none_over : (needs : List ℕ) → ((place : ℕ) → get_or needs place 0 ≤ 2000000) → some_over needs ≡ false
+none_over : (needs : List ℕ) → ((place : ℕ) → get_or needs place 0 ≤ 2000000) → some_need_over needs ≡ false
 none_over needs within = list_any_none _ needs (All-from_get_or (λ need. nat_lt 2000000 need ≡ false) needs 0 (λ place _. le-ltb 2000000 _ (within place)))
 
 pub admitted : (pool : ℕ) (needs : List ℕ) (places : ℕ) → Ok tt ≡ answer pool needs places → Admitted pool needs places

@@ -1,10 +1,10 @@
 -- One place more of the layer of parts, and what it hands to the rule below.
 use Rattle.std.proofs.Common.{◌≡◌, ℕ, zero, suc, ◌+◌, ◌-◌, ◌<◌, ◌≤◌, List, [], ◌∷◌, ◌++◌, length, get_or, drop, set, sum, sym, refl, ap, ◌∙◌, append-nil, append_assoc, add-zero, add-one, arith}
 use Rattle.std.proofs.lemmas.List.{drop_more, drop_all, drop-drop, drop-set-lt, get_or-drop, length_push}
-use Rattle.sharing.specs.Fair.{plus, less}
+use Rattle.sharing.specs.Law.{plus, less}
 use Rattle.sharing.specs.Rules.{ahead, reserved}
 use Rattle.sharing.proofs.Admission.{Admitted}
-use Rattle.sharing.specs.Fairness.{sum_cons, length_less, get_or_less}
+use Rattle.sharing.specs.KeepingTheLaw.{sum_cons, length_less, get_or_less}
 use Rattle.sharing.proofs.Writing.{Begun, begun_more}
 
 -- what is set aside from a place on

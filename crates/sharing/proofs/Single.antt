@@ -3,9 +3,9 @@ use Rattle.std.proofs.Common.{◌≡◌, ℕ, zero, suc, ◌+◌, ◌-◌, ◌*�
 use Rattle.std.specs.Prelude.{slice_index}
 use Rattle.std.proofs.Math.Nat.{lt-mul-div-succ, mul-div-le}
 use Rattle.std.proofs.Math.Seq.{take-nil}
-use Rattle.sharing.specs.Fair.{less}
-use Rattle.sharing.specs.Fairness.{get_or_less, get_or_plus, length_less, portion_grows, reserved_as_many, sum_cons}
-use Rattle.sharing.specs.Laws.{PartsAddToRest, PartsGoAhead, RoundsRunningSums, ServesInOrder, SharesByNeed, WithinOne}
+use Rattle.sharing.specs.Law.{less}
+use Rattle.sharing.specs.KeepingTheLaw.{get_or_less, get_or_plus, length_less, portion_grows, reserved_as_many, sum_cons}
+use Rattle.sharing.specs.Laws.{PartsAddToRest, PartsGoAhead, RoundsRunningSums, ServesInOrder, SharesWithinOne, IsWithinOne}
 use Rattle.sharing.specs.Rules.{ahead, portion, portions, reserved}
 
 pub serves_in_order : ServesInOrder
@@ -15,7 +15,7 @@ serves_in_order pool (need ∷ needs) (suc place) =
     omega (arith, serves_in_order (pool - need) needs place, sum_cons need (take place needs))
 
 -- a difference of two portions that are rounded down is less than 1 away from the exact one
-near : (given all before need : ℕ) → 0 < all → WithinOne given all need (portion given all (before + need) - portion given all before)
+near : (given all before need : ℕ) → 0 < all → IsWithinOne given all need (portion given all (before + need) - portion given all before)
 near given all before need some =
     let upto = portion given all (before + need) in
     let own = portion given all before in
@@ -32,7 +32,7 @@ near given all before need some =
       below = omega (arith, parted, sum_of, mul-div-le (given * before) all, upto_over, upto_next, once);
     }
 
-each_near : (given all before : ℕ) (needs : List ℕ) (place : ℕ) → 0 < all → WithinOne given all (slice_index needs place) (slice_index (portions given all before needs) place)
+each_near : (given all before : ℕ) (needs : List ℕ) (place : ℕ) → 0 < all → IsWithinOne given all (slice_index needs place) (slice_index (portions given all before needs) place)
 each_near given all before [] place some = record {
   above = omega (arith, mul-zero all, mul-zero given);
   below = omega (arith, mul-zero all, mul-zero given);
@@ -40,8 +40,8 @@ each_near given all before [] place some = record {
 each_near given all before (need ∷ needs) zero some = near given all before need some
 each_near given all before (need ∷ needs) (suc place) some = each_near given all (before + need) needs place some
 
-pub shares_by_need : SharesByNeed
-shares_by_need pool needs place some = each_near (min pool (sum needs)) (sum needs) 0 needs place some
+pub shares_within_one : SharesWithinOne
+shares_within_one pool needs place some = each_near (min pool (sum needs)) (sum needs) 0 needs place some
 
 -- what falls to the needs up to one place, less what falls to those before it
 abbrev between : (given all upto before : ℕ) → ℕ

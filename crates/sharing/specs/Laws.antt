@@ -9,15 +9,15 @@ ServesInOrder =
     → slice_index (line_order pool needs) place ≡ min (slice_index needs place) (pool - sum (take place needs))
 
 -- the share is less than 1 kWh away from the exact part, given * need / all
-pub record WithinOne (given all need share : ℕ) : Type 0 where
+pub record IsWithinOne (given all need share : ℕ) : Type 0 where
   pub above : all * share < given * need + all
   pub below : given * need < all * share + all
 
 -- by proportion every share is so near to its part of what is given, where there is a need at all
-abbrev pub SharesByNeed : Type 0
-SharesByNeed =
+abbrev pub SharesWithinOne : Type 0
+SharesWithinOne =
     (pool : ℕ) (needs : List ℕ) (place : ℕ) → 0 < sum needs
-    → WithinOne (min pool (sum needs)) (sum needs) (slice_index needs place) (slice_index (proportion pool needs) place)
+    → IsWithinOne (min pool (sum needs)) (sum needs) (slice_index needs place) (slice_index (proportion pool needs) place)
 
 -- by proportion a share is the part of what is given that falls to the needs up to and with its place, rounded down, less
 -- the part that falls to the needs before it, rounded down; without any need both are quotients by 0, which are 0

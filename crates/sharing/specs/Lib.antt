@@ -1,7 +1,7 @@
-pub mod Fair
+pub mod Law
 pub mod Limits
 pub mod Refusals
 pub mod Rules
-pub mod Layer
-pub mod Fairness
+pub mod Parts
+pub mod KeepingTheLaw
 pub mod Laws

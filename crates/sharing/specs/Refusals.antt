@@ -14,8 +14,8 @@ pub record Meaning (Test : Type 0) : Type 0 where
   pub stands : Test
 
 -- a need is over 2,000,000 kWh
-abbrev pub some_over : List ℕ → Bool
-some_over needs = list_any (nat_lt 2000000) needs
+abbrev pub some_need_over : List ℕ → Bool
+some_need_over needs = list_any (nat_lt 2000000) needs
 
 -- the refusals of a rule's call, by its pool, its needs and the number of places for shares
 abbrev pub meaning : ShareRefusal → Meaning (ℕ → List ℕ → ℕ → Bool)
@@ -27,7 +27,7 @@ meaning Count = record {
 meaning Size = record {
   number = 8;
   words = codes "the pool is over 1000000000 kWh or a need over 2000000 kWh";
-  stands = λ pool needs places. nat_lt 1000000000 pool || some_over needs;
+  stands = λ pool needs places. nat_lt 1000000000 pool || some_need_over needs;
 }
 
 -- the refusal of the call that sets the parts, by their list in ten-thousandths
@@ -39,8 +39,8 @@ parts_meaning Parts = record {
 }
 
 -- a refusal as it is printed
-abbrev pub told : {Test : Type 0} → Meaning Test → List ℕ
-told m = decimal m.number ++ (codes ": " ++ m.words)
+abbrev pub refusal_words : {Test : Type 0} → Meaning Test → List ℕ
+refusal_words m = decimal m.number ++ (codes ": " ++ m.words)
 
 -- the answer of a rule's call: the first refusal that stands, else done
 abbrev pub answer : ℕ → List ℕ → ℕ → Result (Unit {0}) ShareRefusal
@@ -53,6 +53,6 @@ abbrev pub parts_answer : List ℕ → Result (Unit {0}) PartsRefusal
 parts_answer parts = if (parts_meaning Parts).stands parts then Err Parts else Ok tt
 
 -- what a list holds after a call that writes it anew or refuses: the new list, or what it held before
-abbrev pub written : {E : Type 0} → Result (Unit {0}) E → List ℕ → List ℕ → List ℕ
-written (Ok done) new before = new
-written (Err refusal) new before = before
+abbrev pub shares_after : {E : Type 0} → Result (Unit {0}) E → List ℕ → List ℕ → List ℕ
+shares_after (Ok done) new before = new
+shares_after (Err refusal) new before = before

@@ -1,6 +1,6 @@
 -- What each of the three rules makes of a pool and a list of needs.
 use Rattle.std.specs.Prelude.{ℕ, ◌+◌, ◌-◌, ◌*◌, ◌/◌, min, List, [], ◌∷◌, sum}
-use Rattle.sharing.specs.Fair.{plus, less}
+use Rattle.sharing.specs.Law.{plus, less}
 
 -- the first takes its need, as far as there is so much, and those behind it share the rest in the same way
 abbrev pub line_order : ℕ → List ℕ → List ℕ

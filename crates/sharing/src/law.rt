@@ -1,11 +1,5 @@
 //! What each rule gives a place, as laws.
-ghost use Rattle.sharing.specs.Laws.{
-  PartsAddToRest,
-  PartsGoAhead,
-  RoundsRunningSums,
-  ServesInOrder,
-  SharesByNeed,
-};
+ghost use Rattle.sharing.specs.Laws.{PartsAddToRest, PartsGoAhead, RoundsRunningSums, ServesInOrder, SharesWithinOne};
 
 /// By line order a place has the smaller of its need and what the needs before it leave of the pool.
 pub fn serves_in_order()
@@ -13,8 +7,8 @@ pub fn serves_in_order()
 {}
 
 /// By proportion no share is 1 kWh or more away from its exact part of what is given.
-pub fn shares_by_need()
-    ensures { SharesByNeed }
+pub fn shares_within_one()
+    ensures { SharesWithinOne }
 {}
 
 /// By proportion a share is the part of what is given for the needs up to and with its place, rounded down, less that for the needs before it.

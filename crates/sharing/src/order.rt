@@ -1,6 +1,6 @@
 //! Line order.
 ghost use Rattle.sharing.specs.Rules.{line_order};
-ghost use Rattle.sharing.specs.Fairness.{line_order_fair};
+ghost use Rattle.sharing.specs.KeepingTheLaw.{line_order_keeps_law};
 
 use crate::refusal::ShareRefusal;
 use crate::rule::{SharingRule, admit};
@@ -12,7 +12,7 @@ pub struct LineOrder;
 impl SharingRule for LineOrder {
     ghost sharing = { λ _. line_order };
 
-    ghost fair = { λ rule. line_order_fair };
+    ghost keeps_law = { λ rule. line_order_keeps_law };
 
     fn share(&self, pool: u64, needs: &[u64], shares: &mut [u64]) -> Result<(), ShareRefusal> {
         admit(pool, needs, shares.len())?;

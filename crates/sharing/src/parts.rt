@@ -1,9 +1,9 @@
 //! Parts, a layer over any rule.
 ghost use Rattle.std.specs.Prelude.{◌≡◌, ◌≤◌, replicate, sum};
 ghost use Rattle.sharing.specs.Limits.{most_places};
-ghost use Rattle.sharing.specs.Refusals.{parts_answer, written};
+ghost use Rattle.sharing.specs.Refusals.{parts_answer, shares_after};
 ghost use Rattle.sharing.specs.Rules.{ahead, with_parts};
-ghost use Rattle.sharing.specs.Fairness.{with_parts_fair};
+ghost use Rattle.sharing.specs.KeepingTheLaw.{with_parts_keeps_law};
 
 use crate::parts_refusal::PartsRefusal;
 use crate::refusal::ShareRefusal;
@@ -22,7 +22,7 @@ pub struct Parts<R> {
 }
 
 impl<R> Parts<R> {
-    ghost use Rattle.sharing.specs.Layer.{parts_of, rule_below};
+    ghost use Rattle.sharing.specs.Parts.{parts_of, rule_below};
 
     /// The layer over `rule` in which every part is 0.
     pub fn over(rule: R) -> Parts<R>
@@ -38,7 +38,7 @@ impl<R> Parts<R> {
     /// Sets all parts, or refuses and leaves them as they were.
     pub fn set(&mut self, parts: &[u64]) -> Result<(), PartsRefusal>
         ensures answers { result ≡ parts_answer parts.now }
-        ensures writes { parts_of self.new ≡ written result parts.now (parts_of self.old) }
+        ensures writes { parts_of self.new ≡ shares_after result parts.now (parts_of self.old) }
         ensures below { rule_below self.new ≡ rule_below self.old }
     {
         if parts.len() != PLACES || saturating_sum(parts) > WHOLE {
@@ -50,12 +50,12 @@ impl<R> Parts<R> {
 }
 
 impl<R: SharingRule> SharingRule for Parts<R> {
-    ghost use Rattle.sharing.specs.Layer.{parts_of, rule_below};
+    ghost use Rattle.sharing.specs.Parts.{parts_of, rule_below};
 
     ghost sharing = { λ layer. with_parts (R.SharingRule.sharing (rule_below layer)) (parts_of layer) };
 
-    ghost fair = { λ layer.
-        with_parts_fair _ (R.SharingRule.fair (rule_below layer)) (parts_of layer) layer.whole };
+    ghost keeps_law = { λ layer.
+        with_parts_keeps_law _ (R.SharingRule.keeps_law (rule_below layer)) (parts_of layer) layer.whole };
 
     fn share(&self, pool: u64, needs: &[u64], shares: &mut [u64]) -> Result<(), ShareRefusal> {
         admit(pool, needs, shares.len())?;

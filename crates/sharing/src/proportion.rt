@@ -1,7 +1,7 @@
 //! Proportion.
 ghost use Rattle.std.specs.Prelude.{◌≡◌, ◌+◌, ◌-◌, ◌≤◌};
 ghost use Rattle.sharing.specs.Rules.{portion, proportion};
-ghost use Rattle.sharing.specs.Fairness.{proportion_fair};
+ghost use Rattle.sharing.specs.KeepingTheLaw.{proportion_keeps_law};
 
 use crate::refusal::ShareRefusal;
 use crate::rule::{SharingRule, admit, saturating_sum};
@@ -13,7 +13,7 @@ pub struct Proportion;
 impl SharingRule for Proportion {
     ghost sharing = { λ _. proportion };
 
-    ghost fair = { λ rule. proportion_fair };
+    ghost keeps_law = { λ rule. proportion_keeps_law };
 
     fn share(&self, pool: u64, needs: &[u64], shares: &mut [u64]) -> Result<(), ShareRefusal> {
         admit(pool, needs, shares.len())?;

@@ -1,7 +1,7 @@
 //! The sharing rule as an interface, and the test that every rule's call begins with.
 ghost use Rattle.std.specs.Prelude.{◌≡◌, ℕ, ◌-◌, min, List, length, sum};
-ghost use Rattle.sharing.specs.Fair.{Fair};
-ghost use Rattle.sharing.specs.Refusals.{answer, some_over, written};
+ghost use Rattle.sharing.specs.Law.{SharingLaw};
+ghost use Rattle.sharing.specs.Refusals.{answer, some_need_over, shares_after};
 
 use crate::refusal::ShareRefusal;
 
@@ -20,10 +20,10 @@ pub trait SharingRule {
     /// Writes the shares of the needs into `shares`, or refuses and leaves it as it was.
     fn share(&self, pool: u64, needs: &[u64], shares: &mut [u64]) -> Result<(), ShareRefusal>
         ensures answers { result ≡ answer pool needs.now (length shares.old) }
-        ensures writes { shares.new ≡ written result (sharing self.now pool needs.now) shares.old };
+        ensures writes { shares.new ≡ shares_after result (sharing self.now pool needs.now) shares.old };
 
-    ghost fair: { (rule : Self) (pool : ℕ) (needs : List ℕ)
-        → Fair pool needs (sharing rule pool needs) };
+    ghost keeps_law: { (rule : Self) (pool : ℕ) (needs : List ℕ)
+        → SharingLaw pool needs (sharing rule pool needs) };
 }
 
 /// The test of every rule's call: 7 and then 8, or done.
@@ -57,7 +57,7 @@ pub(crate) fn saturating_sum(amounts: &[u64]) -> u64
 
 // Whether a need is over its limit.
 fn some_over(needs: &[u64]) -> bool
-    ensures { result ≡ some_over needs.now }
+    ensures { result ≡ some_need_over needs.now }
 {
     needs.iter().any(|need| *need > MOST_NEED)
 }

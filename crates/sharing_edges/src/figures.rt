@@ -1,8 +1,5 @@
 //! What the rules give at their edges.
-use sharing::order::LineOrder;
-use sharing::parts::Parts;
-use sharing::proportion::Proportion;
-use sharing::rule::SharingRule;
+use sharing::{LineOrder, Parts, Proportion, SharingRule};
 use std::process::Abort;
 
 // A pool, three needs, and the three shares; in tuples, since a proof does not know the length of an array out of a struct.

@@ -1,8 +1,5 @@
 //! Where a rule's call and the setter of the parts refuse, and what a refusal leaves.
-use sharing::order::LineOrder;
-use sharing::parts::Parts;
-use sharing::proportion::Proportion;
-use sharing::rule::SharingRule;
+use sharing::{LineOrder, Parts, Proportion, SharingRule};
 use std::process::Abort;
 
 // What stands in the slice for shares before a call.

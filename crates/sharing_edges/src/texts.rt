@@ -1,9 +1,6 @@
 //! What a comparison reads and refuses.
-use comparison::problem::Problem;
-use comparison::question::{Fault, Wrong};
-use comparison::report::report;
-use sharing::parts_refusal::PartsRefusal;
-use sharing::refusal::ShareRefusal;
+use comparison::{Fault, Problem, Wrong, report};
+use sharing::{PartsRefusal, ShareRefusal};
 use std::alloc::Global;
 use std::process::Abort;
 use std::test::Fail;

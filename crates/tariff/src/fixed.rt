@@ -1,21 +1,21 @@
 //! The tariff that never changes.
-ghost use Rattle.tariff.specs.Charges.{capped_bounded, charged};
+ghost use Rattle.tariff.specs.Charges.{capped_bounded, charged_price};
 
 use crate::class::Class;
-use crate::prices::Prices;
+use crate::prices::PriceTable;
 use crate::service::Service;
 use crate::tariff::Tariff;
-use calendar::days::Month;
+use calendar::Month;
 
 /// A tariff with the same prices in every month.
 #[derive(Clone, Copy, Debug)]
 pub struct FixedTariff {
     /// The prices.
-    pub prices: Prices,
+    pub prices: PriceTable,
 }
 
 impl Tariff for FixedTariff {
-    ghost price = { λ tariff month. charged tariff.prices };
+    ghost price = { λ tariff month. charged_price tariff.prices };
 
     ghost bounded = { λ _ _ _ _. capped_bounded _ };
 

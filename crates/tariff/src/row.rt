@@ -1,19 +1,19 @@
 //! A row of a schedule.
 ghost use Rattle.std.specs.Prelude.{◌≡◌};
 
-use crate::prices::Prices;
-use calendar::days::Month;
+use crate::prices::PriceTable;
+use calendar::Month;
 
 /// Prices and the month from which they hold.
 #[derive(Clone, Copy, Debug)]
-pub struct Row {
+pub struct ScheduleRow {
     /// The first month of the prices.
     pub first_month: Month,
     /// The prices.
-    pub prices: Prices,
+    pub prices: PriceTable,
 }
 
-impl Row {
+impl ScheduleRow {
     ghost use Rattle.tariff.specs.Schedules.{has_begun};
 
     // Whether the first month is the month asked or before it.

@@ -1,24 +1,24 @@
 //! The tariff that changes from month to month.
 ghost use Rattle.std.specs.Prelude.{◌≡◌};
-ghost use Rattle.tariff.specs.Charges.{capped, capped_bounded};
-ghost use Rattle.tariff.specs.Schedules.{in_force, scheduled};
+ghost use Rattle.tariff.specs.Charges.{capped_price, capped_bounded};
+ghost use Rattle.tariff.specs.Schedules.{in_force, scheduled_price};
 
 use crate::class::Class;
-use crate::row::Row;
+use crate::row::ScheduleRow;
 use crate::service::Service;
 use crate::tariff::Tariff;
-use calendar::days::Month;
+use calendar::Month;
 
 /// A tariff by rows: in each month the last row that has begun holds, and before any the price is 0.
 #[derive(Clone, Copy, Debug)]
 pub struct Schedule<'a> {
     /// The rows, in any order of their months.
-    pub rows: &'a [Row],
+    pub rows: &'a [ScheduleRow],
 }
 
 impl<'a> Schedule<'a> {
     // The last row that has begun, if any has.
-    fn row_in_force(&self, month: Month) -> Option<Row>
+    fn row_in_force(&self, month: Month) -> Option<ScheduleRow>
         ensures { result ≡ in_force month self.now.rows.now }
     {
         self.rows
@@ -31,7 +31,7 @@ impl<'a> Schedule<'a> {
 
 impl<'a> Tariff for Schedule<'a> {
     ghost price = { λ schedule month service class.
-        capped (scheduled (in_force month schedule.rows.now) service class) };
+        capped_price (scheduled_price (in_force month schedule.rows.now) service class) };
 
     ghost bounded = { λ _ _ _ _. capped_bounded _ };
 

@@ -1,5 +1,6 @@
 //! The services that a tariff prices.
-use ledger::zone::Zone;
+
+use ledger::Zone;
 
 /// A service with a price for each kWh.
 #[derive(Clone, Copy, PartialEq, Eq, Debug)]

@@ -5,7 +5,7 @@ ghost use Rattle.tariff.specs.declared.service.Service.{Service};
 
 use crate::class::Class;
 use crate::service::Service;
-use calendar::days::Month;
+use calendar::Month;
 
 /// The highest price, in hundredths of a dram for each kWh.
 pub const MOST_PRICE: u32 = 100_000;

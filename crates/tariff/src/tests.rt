@@ -1,13 +1,13 @@
 //! Each price by its place, at the limit, and in the months around a row's first.
 use crate::class::Class;
 use crate::fixed::FixedTariff;
-use crate::prices::{ClassPrices, Prices};
-use crate::row::Row;
+use crate::prices::{ClassPrices, PriceTable};
+use crate::row::ScheduleRow;
 use crate::schedule::Schedule;
 use crate::service::Service;
 use crate::tariff::Tariff;
-use calendar::days::Month;
-use ledger::zone::{ByZone, Zone};
+use calendar::Month;
+use ledger::{ByZone, Zone};
 
 // Five prices that count up.
 fn class_from(first: u16) -> ClassPrices {
@@ -26,9 +26,9 @@ fn class_from(first: u16) -> ClassPrices {
 }
 
 // Fifteen prices that count up, class after class.
-fn prices_from(first: u8) -> Prices {
+fn prices_from(first: u8) -> PriceTable {
     let first = first as u16;
-    Prices {
+    PriceTable {
         household: class_from(first),
         other: class_from(first + 5),
         vulnerable: class_from(first + 10),
@@ -60,7 +60,7 @@ const PLACES: [(Service, Class, u32); 15] = [
 #[test]
 fn each_service_and_class_has_its_own_price(rt: HostRuntime) {
     let prices = prices_from(100);
-    let rows = [Row {
+    let rows = [ScheduleRow {
         first_month: 0,
         prices,
     }];
@@ -86,7 +86,7 @@ fn no_price_exceeds_the_limit(rt: HostRuntime) {
     for (stored, charged) in LIMITS.iter().copied() {
         let mut prices = prices_from(1);
         prices.other.distribution = stored;
-        let rows = [Row {
+        let rows = [ScheduleRow {
             first_month: 0,
             prices,
         }];
@@ -120,15 +120,15 @@ const MONTHS: [(Month, u32); 9] = [
 fn the_last_row_that_has_begun_is_in_force(rt: HostRuntime) {
     // The row from month 5 stands after that from month 10, and so wins over it.
     let rows = [
-        Row {
+        ScheduleRow {
             first_month: 10,
             prices: prices_from(20),
         },
-        Row {
+        ScheduleRow {
             first_month: 5,
             prices: prices_from(30),
         },
-        Row {
+        ScheduleRow {
             first_month: 20,
             prices: prices_from(40),
         },

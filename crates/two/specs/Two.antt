@@ -8,13 +8,13 @@ use Rattle.group.specs.declared.member.OpeningRecord.{OpeningRecord}
 use Rattle.ledger.specs.declared.zone.ByFlow.{ByFlow}
 use Rattle.ledger.specs.declared.zone.ByZone.{ByZone}
 use Rattle.ledger.specs.declared.zone.Zone.TheVariants.{Day, Night}
-use Rattle.settlement.specs.Setups.{SettledFrom}
-use Rattle.settlement.specs.declared.run.Outcome.{Outcome}
+use Rattle.settlement.specs.Setups.{SettlesFrom}
+use Rattle.settlement.specs.declared.runs.Outcome.{Outcome}
 use Rattle.settlement.specs.declared.setup.Setup.{Setup}
 use Rattle.sharing.specs.Rules.{proportion}
 use Rattle.sharing.specs.declared.proportion.Proportion.{Proportion}
 use Rattle.group.specs.Months.{Prices}
-use Rattle.tariff.specs.Charges.{charged}
+use Rattle.tariff.specs.Charges.{charged_price}
 use Rattle.tariff.specs.declared.class.Class.{Class}
 use Rattle.tariff.specs.declared.class.Class.TheVariants.{Household, Other}
 use Rattle.tariff.specs.declared.fixed.FixedTariff.{FixedTariff}
@@ -47,11 +47,11 @@ pub record IsTwo (setup : Setup Proportion FixedTariff) : Type 0 where
   pub start : setup.start ≡ 24 * 12
   pub holder : setup.holder ≡ 0
   pub records : setup.records.now ≡ producer ∷ household ∷ []
-  pub priced : (service : Service) (class : Class) → charged setup.tariff.prices service class ≡ prices service class
+  pub priced : (service : Service) (class : Class) → charged_price setup.tariff.prices service class ≡ prices service class
 
 -- that group with its first month open
-abbrev pub two : Group
-two = record {
+abbrev pub group_of_two : Group
+group_of_two = record {
   number = 7;
   holder = 0;
   members = record { items = opened_member producer ∷ opened_member household ∷ [] };
@@ -61,11 +61,11 @@ two = record {
 }
 
 -- the call that opens it
-abbrev pub opening : Event
-opening = Opening 7 (24 * 12) 0 (producer ∷ household ∷ []) (Ok tt)
+abbrev pub opening_of_two : Event
+opening_of_two = Opening 7 (24 * 12) 0 (producer ∷ household ∷ []) (Ok tt)
 
 -- a journal is run over a book of that group, settled by proportion at these prices, and the history of its opening and of
 -- the calls of the accepted lines leads to what that leaves, balanced at its start and after each of its calls
 abbrev pub SettlesTwo : (journal old : List ℕ) → Outcome → (new : List ℕ) → Type 0
 SettlesTwo journal old outcome new =
-    (after : Group) × SettledFrom proportion (λ month. prices) opening journal (old, two) outcome (new, after)
+    (after : Group) × SettlesFrom proportion (λ month. prices) opening_of_two journal (old, group_of_two) outcome (new, after)

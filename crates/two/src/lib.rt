@@ -1,5 +1,8 @@
 //! A group of two members, and the program that settles it.
 #![tactic(auto)]
 
-pub mod program;
-pub mod two;
+mod program;
+mod two;
+
+pub use program::{Lengths, OUTPUT, settle_input, write_printed};
+pub use two::settle_two;

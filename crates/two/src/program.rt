@@ -1,12 +1,10 @@
 //! The program over standard input and output.
 ghost use Rattle.std.specs.Prelude.{◌≤◌, ◌++◌, take};
-ghost use Rattle.cells.specs.Cells.{Put};
-ghost use Rattle.two.specs.Printing.{Printed, PrintsJournal, fault_text};
+ghost use Rattle.cells.specs.Cells.{Puts};
+ghost use Rattle.two.specs.Printing.{PrintsOutput, PrintsJournal, fault_text};
 
 use crate::two::settle_two;
-use settlement::fault::RunFault;
-use settlement::fault_line::{FAULT_ROOM, write_fault};
-use settlement::run::MOST_JOURNAL;
+use settlement::{FAULT_ROOM, MOST_JOURNAL, RunFault, write_fault};
 use std::io;
 use std::io::{Read, Write};
 
@@ -32,7 +30,7 @@ pub fn write_printed(
 ) -> Lengths
     ensures slices { PrintsJournal journal.now
         (output.old, line.old) result (output.new, line.new) }
-    ensures printed { Printed journal.now
+    ensures printed { PrintsOutput journal.now
         (take result.output output.new ++ take result.fault line.new) }
     ensures output { result.output ≤ 65536 }
     ensures fault { result.fault ≤ 64 }
@@ -47,7 +45,7 @@ pub fn write_printed(
 
 // Writes the line of a fault, which any such room holds, and answers its length.
 fn write_line(fault: Option<RunFault>, line: &mut [u8; FAULT_ROOM]) -> usize
-    ensures written { Put line.old 0 (fault_text fault) line.new result }
+    ensures written { Puts line.old 0 (fault_text fault) line.new result }
     ensures within_64 { result ≤ 64 }
 {
     let Some(fault) = fault else {

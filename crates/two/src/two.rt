@@ -3,15 +3,12 @@
 ghost use Rattle.std.specs.Prelude.{◌≡◌, [], ◌∷◌};
 ghost use Rattle.two.specs.Two.{IsTwo, SettlesTwo, household, producer};
 
-use calendar::days::Month;
-use group::member::OpeningRecord;
-use ledger::zone::{ByFlow, ByZone};
-use settlement::run::Outcome;
-use settlement::setup::{Setup, settle};
-use sharing::proportion::Proportion;
-use tariff::class::Class;
-use tariff::fixed::FixedTariff;
-use tariff::prices::{ClassPrices, Prices};
+use calendar::Month;
+use group::OpeningRecord;
+use ledger::{ByFlow, ByZone};
+use settlement::{Outcome, Setup, settle};
+use sharing::Proportion;
+use tariff::{Class, ClassPrices, FixedTariff, PriceTable};
 
 // Months are counted from January 2000: this is January 2024.
 const START: Month = 288;
@@ -42,7 +39,7 @@ const PRICES: ClassPrices = ClassPrices {
 };
 
 const TARIFF: FixedTariff = FixedTariff {
-    prices: Prices {
+    prices: PriceTable {
         household: PRICES,
         other: PRICES,
         vulnerable: PRICES,

@@ -1,5 +1,5 @@
 use Rattle.std.proofs.Common.{drop}
-use Rattle.sharing.specs.Fair.{less}
+use Rattle.sharing.specs.Law.{less}
 use Rattle.sharing.proofs.Writing.{Begun}
 use Rattle.billing.proofs.zone.bill.Given as goal
 

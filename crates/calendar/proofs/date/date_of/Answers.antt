@@ -2,7 +2,7 @@ use Rattle.std.proofs.Common.{◌-◌, ◌%◌, Some, sym, ap, ◌∙◌, subst,
 use Rattle.calendar.proofs.Months.{first_next, usual_length}
 use Rattle.calendar.proofs.Named.{named, unnamed}
 use Rattle.calendar.proofs.Numbered.{agree, date_found, past_the_last}
-use Rattle.calendar.specs.Dates.{DateOf, date_in}
+use Rattle.calendar.specs.Dates.{IsDateOf, date_in}
 use Rattle.calendar.specs.Gregorian.{year_of}
 use Rattle.calendar.proofs.date.date_of.Goals as goal
 
@@ -23,5 +23,5 @@ pub returns : goal.returns
 returns c =
     let within = c.in_ok-month.ensures in
     let made = c.date_in.ensures ∙ ap (λ first. date_in c.in_ok-month.month (c.args.day - first)) c.first.ensures in
-    let of = subst (λ d. DateOf c.args.day (Some d)) (sym made) (date_found c.in_ok-month.month c.args.day within.0 within.1 within.2) in
+    let of = subst (λ d. IsDateOf c.args.day (Some d)) (sym made) (date_found c.in_ok-month.month c.args.day within.0 within.1 within.2) in
     record { date = of; named = named c.date_in.result c.args.day of.0; agree = agree }

@@ -1,6 +1,6 @@
 use Rattle.std.proofs.Common.{◌≡◌, ℕ, ◌+◌, ◌-◌, ◌^◌, min, List, [], ◌∷◌, sum, fold, ◌∙◌, ap, rules, arith}
 use Rattle.std.proofs.iter.runs.Made.{chains}
-use Rattle.sharing.specs.Fairness.{sum_cons}
+use Rattle.sharing.specs.KeepingTheLaw.{sum_cons}
 use Rattle.sharing.proofs.rule.saturating_sum.Goals as goal
 
 -- a sum that stops at a limit is the smaller of the sum and the limit

@@ -4,7 +4,7 @@ use Rattle.group.specs.declared.group.Group.{Group}
 use Rattle.group.specs.declared.group.Phase.TheVariants.{YearEnd}
 use Rattle.group.proofs.Changes.{closing_alters}
 use Rattle.group.proofs.YearsSound.{year_sound}
-use Rattle.group.specs.Sound.{Sound}
+use Rattle.group.specs.Sound.{IsSound}
 use Rattle.balance.proofs.Theorem.{moved_goes_on, quiet_goes_on}
 use Rattle.balance.specs.Histories.{Closing}
 use Rattle.book.proofs.Paid.{closed_is}
@@ -20,15 +20,15 @@ invariant_of-self g c =
     let is = closed_is prices december group c.post_year.new.group c.year_end.result.1 c.post_year.ensures c.year_end.ensures.holder in
     let same : c.args.self.now.group ≡ group = grind (arith, common_steps) in
     let ended : group.phase ≡ YearEnd december = subst (λ (g : Group). g.phase ≡ YearEnd december) same c.in_ok-december.ensures.phase in
-    let P : Group → Type 0 = λ g. Sound g in
+    let P : Group → Type 0 = λ g. IsSound g in
     subst P is (year_sound prices december (g.met.T.Tariff.bounded tariff december) group c.self.invariant ended)
 
 pub returns-in_err-december-clause-balance : goal.returns-in_err-december-clause-balance
-returns-in_err-december-clause-balance g c = quiet_goes_on g.R.SharingRule.sharing g.T.Tariff.price g.met.R.SharingRule.fair c.args.self.now (Closing _) (search rules)
+returns-in_err-december-clause-balance g c = quiet_goes_on g.R.SharingRule.sharing g.T.Tariff.price g.met.R.SharingRule.keeps_law c.args.self.now (Closing _) (search rules)
 
 pub returns-clause-balance : goal.returns-clause-balance
 returns-clause-balance g c =
-    moved_goes_on g.R.SharingRule.sharing g.T.Tariff.price g.met.R.SharingRule.fair c.args.self.now c.self.inside.rule c.self.inside.tariff c.self.inside.group c.post_year.new.group (Closing (Ok c.year_end.result.0)) c.self.view_is (grind (arith, common_steps))
+    moved_goes_on g.R.SharingRule.sharing g.T.Tariff.price g.met.R.SharingRule.keeps_law c.args.self.now c.self.inside.rule c.self.inside.tariff c.self.inside.group c.post_year.new.group (Closing (Ok c.year_end.result.0)) c.self.view_is (grind (arith, common_steps))
 
 pub returns-clause-holder : goal.returns-clause-holder
 returns-clause-holder g c =

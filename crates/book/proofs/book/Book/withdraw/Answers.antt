@@ -5,5 +5,5 @@ use Rattle.book.proofs.book.Book.withdraw.Goals as goal
 
 pub returns : goal.returns
 returns g c = record {
-  balance = quiet_goes_on g.R.SharingRule.sharing g.T.Tariff.price g.met.R.SharingRule.fair c.args.self.now (Withdrawing c.args.draft) refl;
+  balance = quiet_goes_on g.R.SharingRule.sharing g.T.Tariff.price g.met.R.SharingRule.keeps_law c.args.self.now (Withdrawing c.args.draft) refl;
 }

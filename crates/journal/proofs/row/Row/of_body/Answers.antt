@@ -1,5 +1,5 @@
 use Rattle.std.proofs.Common.{◌≡◌, ℕ, List, [], ◌∷◌, length, get_or, refl, subst, rules, arith, Bor}
-use Rattle.fields.specs.Partings.{Parted, part_texts}
+use Rattle.fields.specs.Partings.{IsParted, part_texts}
 use Rattle.journal.proofs.row.Row.of_body.Goals as goal
 
 -- the texts of seven parts, one by one
@@ -18,6 +18,6 @@ pub returns : goal.returns
 returns c =
     let cut = c.in_ok-cut_into.ensures in (
       rw (c.new.ensures.whole, c.new-2.ensures.whole, c.new-3.ensures.whole, c.new-4.ensures.whole, c.new-5.ensures.whole, c.new-6.ensures.whole, c.new-7.ensures.whole)
-          (subst (λ texts. Parted texts c.args.body.now) (seven c.cut_into.new.fields _ (omega (arith, cut.0))) cut.1),
+          (subst (λ texts. IsParted texts c.args.body.now) (seven c.cut_into.new.fields _ (omega (arith, cut.0))) cut.1),
       search rules,
     )

@@ -1,11 +1,11 @@
 use Rattle.std.proofs.Common.{◌≡◌, ◌-◌, ◌≤◌, [], ◌∷◌, ◌++◌, length, get_or, sum, refl, ap, ◌∙◌, ap₂, arith}
 use Rattle.std.proofs.lemmas.List.{length_push}
 use Rattle.std.proofs.lemmas.Slice.Zip.{zip_turn, zip_end}
-use Rattle.sharing.specs.Fair.{plus, less}
+use Rattle.sharing.specs.Law.{plus, less}
 use Rattle.sharing.specs.Refusals.{answer}
 use Rattle.sharing.specs.Rules.{ahead, reserved}
 use Rattle.sharing.proofs.Admission.{admitted, admits}
-use Rattle.sharing.specs.Fairness.{reserved_in_pool, length_less, get_or_less}
+use Rattle.sharing.specs.KeepingTheLaw.{reserved_in_pool, length_less, get_or_less}
 use Rattle.sharing.proofs.Layers.{own_fits, aside_more, added_more, all_aside, at_start, rest_admitted}
 use Rattle.sharing.proofs.parts.PartsSharingRule.share.Goals as goal
 
@@ -77,16 +77,16 @@ overflow_add-shares g c =
     let place = c.loop-place.place in
     let inv = c.loop-place.invariant in
     let fit = admitted c.args.pool ns (length c.args.shares.now) c.in_ok-admit.ensures in
-    let fair = g.met.R.SharingRule.fair c.args.self.now.rule (c.args.pool - sum first) (less ns first) in
+    let keeps_law = g.met.R.SharingRule.keeps_law c.args.self.now.rule (c.args.pool - sum first) (less ns first) in
     let share = at_start c.loop-place.shares c.share.new.shares place inv.same ∙ ap (λ l. get_or l place 0) inv.given in
-    omega (arith, share, fair.within place, get_or_less ns first place, fit.needs_within place, c.ahead.ensures)
+    omega (arith, share, keeps_law.within place, get_or_less ns first place, fit.needs_within place, c.ahead.ensures)
 
 pub loop-place-preserved : goal.loop-place-preserved
 loop-place-preserved g c =
     let ns = c.args.needs.now in
     let first = reserved c.args.pool c.args.self.now.parts ns in
     let inv = c.loop-place.invariant in
-    let fair = g.met.R.SharingRule.fair c.args.self.now.rule (c.args.pool - sum first) (less ns first) in
-    let long : length c.share.new.shares ≡ length ns = ap length inv.given ∙ fair.as_many ∙ length_less ns first in
+    let keeps_law = g.met.R.SharingRule.keeps_law c.args.self.now.rule (c.args.pool - sum first) (less ns first) in
+    let long : length c.share.new.shares ≡ length ns = ap length inv.given ∙ keeps_law.as_many ∙ length_less ns first in
     let more = added_more c.args.pool c.args.self.now.parts ns c.loop-place.place c.ahead.result c.loop-place-test.true c.ahead.ensures c.loop-place.shares c.share.new.shares (plus first c.share.new.shares) (c.loop-place.auto.shares ∙ long) long inv.same inv.begun in
     record { given = inv.given; same = more.0; begun = more.1 }

@@ -1,5 +1,5 @@
 use Rattle.std.proofs.Common.{◌≡◌, ◌-◌, length, drop, sum}
-use Rattle.sharing.specs.Fair.{plus, less}
+use Rattle.sharing.specs.Law.{plus, less}
 use Rattle.sharing.specs.Rules.{reserved}
 use Rattle.sharing.proofs.Layers.{Aside}
 use Rattle.sharing.proofs.Writing.{Begun}

@@ -1,8 +1,0 @@
-use Rattle.marked.proofs.Numbering.{numbered, roomed}
-use Rattle.marked.proofs.numbers_stand.Goals as goal
-
-pub returns-clause-numbered : goal.returns-clause-numbered
-returns-clause-numbered c = numbered
-
-pub returns-clause-roomed : goal.returns-clause-roomed
-returns-clause-roomed c = roomed

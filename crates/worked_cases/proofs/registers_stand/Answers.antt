@@ -1,0 +1,5 @@
+use Rattle.worked_cases.proofs.Readings.{read_again}
+use Rattle.worked_cases.proofs.registers_stand.Goals as goal
+
+pub returns-clause-read_again : goal.returns-clause-read_again
+returns-clause-read_again c = read_again

@@ -1,0 +1,16 @@
+use Rattle.worked_cases.proofs.Faults.{fault_told, lines_in_order}
+use Rattle.worked_cases.proofs.Months.{month_settled}
+use Rattle.worked_cases.proofs.Years.{year_settled}
+use Rattle.worked_cases.proofs.runs_stand.Goals as goal
+
+pub returns-clause-month_settled : goal.returns-clause-month_settled
+returns-clause-month_settled c = month_settled c.one_outcome.ensures
+
+pub returns-clause-fault_told : goal.returns-clause-fault_told
+returns-clause-fault_told c = fault_told c.one_outcome.ensures
+
+pub returns-clause-lines_in_order : goal.returns-clause-lines_in_order
+returns-clause-lines_in_order c = lines_in_order c.one_outcome.ensures
+
+pub returns-clause-year_settled : goal.returns-clause-year_settled
+returns-clause-year_settled c = year_settled c.one_outcome.ensures
