@@ -1,5 +1,6 @@
 //! What a column of a table holds.
 ghost use Rattle.std.specs.Prelude.{◌≤◌, codes, decimal, unsigned_abs};
+ghost use Rattle.calendar.specs.Gregorian.{last_day};
 ghost use Rattle.fields.specs.Columns.{ColumnReads, DateForm, MissingForm, NumberForm, SignedForm, Spelling, ReadsValue};
 ghost use Rattle.fields.specs.Reads.{Reads};
 ghost use Rattle.fields.specs.Texts.{day_text};
@@ -92,7 +93,7 @@ pub struct Dated(pub Day);
 impl Column for Dated {
     ghost spelling = { record {
       form = DateForm;
-      fine = λ date. date.0 ≤ 36524;
+      fine = λ date. date.0 ≤ last_day;
       text = λ date. day_text date.0;
     } };
 

@@ -1,5 +1,6 @@
 //! Reads the dates and the months of a text.
 ghost use Rattle.std.specs.Prelude.{◌≤◌};
+ghost use Rattle.calendar.specs.Gregorian.{last_day, last_month};
 ghost use Rattle.fields.specs.Digits.{AreFourDigits, AreTwoDigits};
 ghost use Rattle.fields.specs.Reads.{Reads};
 ghost use Rattle.fields.specs.Texts.{IsSpellable, date_text, day_text, month_text};
@@ -16,14 +17,14 @@ const HUNDRED: u16 = 100;
 
 /// The day of the date that `part` spells as 2024-01-31, or none where it spells no date from 2000-01-01 to 2099-12-31.
 pub fn day(part: &[u8]) -> Option<Day>
-    ensures { Reads (λ d. d ≤ 36524) day_text part.now result }
+    ensures { Reads (λ d. d ≤ last_day) day_text part.now result }
 {
     day_of(date(part)?)
 }
 
 /// The month that `part` spells as 2024-01, or none where it spells none from 2000-01 to 2099-12.
 pub fn month(part: &[u8]) -> Option<Month>
-    ensures { Reads (λ m. m ≤ 1199) month_text part.now result }
+    ensures { Reads (λ m. m ≤ last_month) month_text part.now result }
 {
     let [y0, y1, y2, y3, HYPHEN, m0, m1] = part else {
         return None;

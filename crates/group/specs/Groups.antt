@@ -2,6 +2,7 @@
 use Rattle.std.specs.Prelude.{ℕ, ◌+◌, Bool, not, ◌&&◌, ◌||◌, if◌then◌else◌, List, [], map, length, nat_le, nat_lt, slice_get, sum_by, false, is_none, Ok, Err, Result}
 use Rattle.std.specs.List.{list_all, list_any}
 use Rattle.std.specs.Option.{ok_or, option_map_or}
+use Rattle.calendar.specs.Gregorian.{last_month}
 use Rattle.arrayvec.specs.ArrayVec.{with_item}
 use Rattle.group.specs.Members.{capacity_of, has_register_over, opened_member}
 use Rattle.group.specs.Results.{and_then, result_map}
@@ -44,7 +45,7 @@ count_is_outside records = nat_lt (length records) 1 || nat_lt most_members (len
 
 -- the start month is after December 2099
 abbrev pub start_is_too_late : (start : ℕ) → Bool
-start_is_too_late start = nat_lt 1199 start
+start_is_too_late start = nat_lt last_month start
 
 -- no capacity is over 150 kW, and their sum is not over 1,050 kW
 abbrev pub capacities_fit : List OpeningRecord → Bool

@@ -1,5 +1,6 @@
 -- What holds of the group in every book: the ranges of its figures, so that no call leaves what numbers can hold, and that it is blank before its opening.
 use Rattle.std.specs.Prelude.{◌≡◌, ℕ, ◌+◌, ◌*◌, ◌%◌, ◌<◌, ◌≤◌, All, length, nat_abs}
+use Rattle.calendar.specs.Gregorian.{last_month}
 use Rattle.ledger.specs.Zones.{in_zone}
 use Rattle.ledger.specs.declared.zone.ByFlow.{ByFlow}
 use Rattle.billing.specs.declared.account.Account.{Account}
@@ -57,8 +58,8 @@ most_entries Over = 0
 -- the months are those of the calendar, and the holder is a member once the group is opened
 abbrev pub IsSoundPhase : Phase → (holder members : ℕ) → Type 0
 IsSoundPhase Blank holder members = Unit {0}
-IsSoundPhase (Open month) holder members = (month ≤ 1199) × (holder < members)
-IsSoundPhase (YearEnd december) holder members = (december ≤ 1199) × (december % 12 ≡ 11) × (holder < members)
+IsSoundPhase (Open month) holder members = (month ≤ last_month) × (holder < members)
+IsSoundPhase (YearEnd december) holder members = (december ≤ last_month) × (december % 12 ≡ 11) × (holder < members)
 IsSoundPhase Over holder members = holder < members
 
 -- the figures of the group are in their ranges, its phase has the months and the members that it may have, and before its opening it is the blank one

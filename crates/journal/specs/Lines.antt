@@ -1,5 +1,6 @@
 -- The lines of a journal: what the fields of each kind must be, and the text of a line.
 use Rattle.std.specs.Prelude.{◌≡◌, ℕ, ◌≤◌, ◌⊎◌, List, [], ◌∷◌, replicate, Ok, Err, codes, decimal, Result, unsigned_abs}
+use Rattle.calendar.specs.Gregorian.{last_day}
 use Rattle.fields.specs.Columns.{AreAllRight, DateForm, Form, MissingForm, NumberForm, SignedForm}
 use Rattle.fields.specs.Rows.{line_of}
 use Rattle.fields.specs.Texts.{day_text}
@@ -69,9 +70,9 @@ HasNineDigits n = n ≤ 999999999
 -- the numbers of the line have up to nine digits, and its day is one of the calendar
 abbrev pub IsWritable : Line → Type 0
 IsWritable (Enter (Reading register day value)) =
-    HasNineDigits register.place × HasNineDigits value × (day ≤ 36524)
+    HasNineDigits register.place × HasNineDigits value × (day ≤ last_day)
 IsWritable (Enter (Change register day value start)) =
-    HasNineDigits register.place × HasNineDigits value × HasNineDigits start × (day ≤ 36524)
+    HasNineDigits register.place × HasNineDigits value × HasNineDigits start × (day ≤ last_day)
 IsWritable (Enter (Correction register quantity)) =
     HasNineDigits register.place × HasNineDigits (unsigned_abs quantity)
 IsWritable (Enter (Payment place drams)) = HasNineDigits place × HasNineDigits drams

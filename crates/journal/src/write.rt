@@ -1,5 +1,6 @@
 //! Writes a line of a journal.
 ghost use Rattle.std.specs.Prelude.{◌≡◌, ◌≤◌, ◌↔◌, ◌∷◌, decimal, length, map, IsTrue};
+ghost use Rattle.calendar.specs.Gregorian.{last_day};
 ghost use Rattle.calendar.specs.Dates.{date_of_day};
 ghost use Rattle.cells.specs.Cells.{cell_text};
 ghost use Rattle.cells.specs.declared.rows.Cell.TheVariants as cells;
@@ -189,7 +190,7 @@ fn bare_cells(kind: Kind) -> [Cell<'static>; 7]
 
 // The cell of a day's date, which a writable line has.
 fn date_cell(day: Day) -> Cell<'static>
-    requires { day ≤ 36524 }
+    requires { day ≤ last_day }
     ensures { result ≡ cells.Date (date_of_day day) }
 {
     Cell::Date(date_of(day).unwrap())

@@ -1,6 +1,7 @@
 -- The lines of a journal that a book accepts, with what they write and the calls that they make.
 use Rattle.std.specs.Prelude.{◌≡◌, ℕ, List, [], ◌∷◌, ◌++◌, length, take, Ok}
 use Rattle.std.specs.List.{AllZip}
+use Rattle.group.specs.Groups.{most_members}
 use Rattle.balance.specs.Histories.{Closing, Drawing, Entering, Event, Issuing}
 use Rattle.group.specs.declared.group.Group.{Group}
 use Rattle.group.specs.declared.group.Phase.TheVariants.{YearEnd as AtYearEnd}
@@ -29,10 +30,10 @@ pub data AcceptsInTurn (share : Share) (prices : ℕ → Prices) : (lines : List
       → after_entry entry group ≡ Ok new → AcceptsInTurn share prices lines new texts calls after
       → AcceptsInTurn share prices (Enter entry ∷ lines) group texts (calls ++ Entering entry (Ok tt) ∷ []) after
   an_issue : (drawing : Stamp × List Bill) (bills : List Bill) (lines : List Line) (group new after : Group) (texts : List (List ℕ)) (calls : List Event)
-      → drawing_result share prices 32 group ≡ Ok drawing → issue_result share prices drawing.0 32 group ≡ Ok (bills, new)
+      → drawing_result share prices most_members group ≡ Ok drawing → issue_result share prices drawing.0 most_members group ≡ Ok (bills, new)
       → AcceptsInTurn share prices lines new texts calls after
       → AcceptsInTurn share prices (Issue ∷ lines) group (bills_text drawing.0.month bills ∷ texts)
-      (calls ++ Issuing drawing.0 32 (Ok bills) ∷ Drawing 32 (Ok drawing) ∷ []) after
+      (calls ++ Issuing drawing.0 most_members (Ok bills) ∷ Drawing most_members (Ok drawing) ∷ []) after
   a_closing : (december : ℕ) (figures : YearEnd) (lines : List Line) (group new after : Group) (texts : List (List ℕ)) (calls : List Event)
       → group.phase ≡ AtYearEnd december → closing_result prices group ≡ Ok (figures, new)
       → AcceptsInTurn share prices lines new texts calls after

@@ -44,10 +44,10 @@ GoesOn number group (Err refusal) Rest ran = ran ≡ stopped_run number refusal 
 -- the run of lines on a group, with room for so many bytes, comes to this: each line is read, and does what is read of it
 abbrev pub RunsLines : Share → (ℕ → Prices) → (room number : ℕ) → List (List ℕ) → Group → RunResult → Type 0
 RunsLines share prices room number [] group ran = ran ≡ ended_run group
-RunsLines share prices room number (line ∷ lines) group ran =
-    (reading : Result Line LineFault) × ReadsLine line number reading
+RunsLines share prices room number (text ∷ texts) group ran =
+    (reading : Result Line LineFault) × ReadsLine text number reading
     × GoesOn number group (after_reading share prices room reading group)
-    (λ text new later. RunsLines share prices (room - length text) (number + 1) lines new later) ran
+    (λ written new later. RunsLines share prices (room - length written) (number + 1) texts new later) ran
 
 -- the text is a journal of at most 65,536 bytes: the line of names, and then its body
 abbrev pub IsJournal : List ℕ → (body : List ℕ) → Type 0

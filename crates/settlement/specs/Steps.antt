@@ -1,5 +1,6 @@
 -- What a line of a journal does: the text that it writes and the group after it, or why it is refused.
 use Rattle.std.specs.Prelude.{◌≡◌, ℕ, ◌-◌, if◌then◌else◌, List, [], length, nat_lt, Ok, Err, Result}
+use Rattle.group.specs.Groups.{most_members}
 use Rattle.cells.specs.Cells.{Puts}
 use Rattle.group.specs.Results.{and_then, result_map}
 use Rattle.group.specs.declared.group.Group.{Group}
@@ -23,8 +24,8 @@ use Rattle.settlement.specs.declared.fault.RunRefusal.TheVariants as refused
 abbrev pub line_result : Share → (ℕ → Prices) → Line → Group → Result (List ℕ × Group) BookRefusal
 line_result share prices (Enter entry) group = result_map (λ new. ([], new)) (after_entry entry group)
 line_result share prices Issue group =
-    and_then (drawing_result share prices 32 group) (λ drawing.
-    result_map (λ issue. (bills_text drawing.0.month issue.0, issue.1)) (issue_result share prices drawing.0 32 group))
+    and_then (drawing_result share prices most_members group) (λ drawing.
+    result_map (λ issue. (bills_text drawing.0.month issue.0, issue.1)) (issue_result share prices drawing.0 most_members group))
 line_result share prices Year group =
     result_map (λ december.
     (year_line december group.holder (year_figures (prices december) group), after_year prices december group)) (open_year group.phase)

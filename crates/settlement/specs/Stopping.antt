@@ -1,5 +1,6 @@
 -- Why a run stops at a line.
 use Rattle.std.specs.Prelude.{◌≡◌, ℕ, ◌<◌, List, [], ◌∷◌, None, Option, Some, Ok, Err, ◌⊎◌}
+use Rattle.group.specs.Groups.{most_members}
 use Rattle.balance.specs.Histories.{Event}
 use Rattle.group.specs.declared.group.Group.{Group}
 use Rattle.group.specs.declared.refusal.BookRefusal.{BookRefusal}
@@ -23,8 +24,8 @@ use Rattle.settlement.specs.declared.fault.RunRefusal.TheVariants as refused
 abbrev pub BookRefuses : Share → (ℕ → Prices) → Line → Group → BookRefusal → Type 0
 BookRefuses share prices (Enter entry) group refusal = after_entry entry group ≡ Err refusal
 BookRefuses share prices Issue group refusal =
-    (drawing_result share prices 32 group ≡ Err refusal)
-    ⊎ ((drawing : Stamp × List Bill) × (drawing_result share prices 32 group ≡ Ok drawing) × (issue_result share prices drawing.0 32 group ≡ Err refusal))
+    (drawing_result share prices most_members group ≡ Err refusal)
+    ⊎ ((drawing : Stamp × List Bill) × (drawing_result share prices most_members group ≡ Ok drawing) × (issue_result share prices drawing.0 most_members group ≡ Err refusal))
 BookRefuses share prices Year group refusal = closing_result prices group ≡ Err refusal
 
 -- why a run stops at a text, over a group and with so much room: the text is no line, the book refuses what it says, or the

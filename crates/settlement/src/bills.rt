@@ -1,5 +1,6 @@
 //! The lines of the output that a line of a journal writes.
 ghost use Rattle.std.specs.Prelude.{◌≡◌, ◌+◌, ◌<◌, ◌≤◌, Some, length, slice_get};
+ghost use Rattle.group.specs.Groups.{most_members};
 ghost use Rattle.cells.specs.Cells.{overwritten_text};
 ghost use Rattle.settlement.specs.Steps.{output_room};
 ghost use Rattle.settlement.specs.Texts.{bills_text};
@@ -37,7 +38,7 @@ fn bill_at(bills: &[Bill], place: usize) -> Bill
 
 // Writes the lines of a month's bills from `at` on, where any 32 such lines have room, and answers the place after them.
 pub(crate) fn write_bills(month: Month, bills: &[Bill], out: &mut [u8], at: usize) -> usize
-    requires few { length bills.now ≤ 32 }
+    requires few { length bills.now ≤ most_members }
     requires room { at + output_room ≤ length out.old }
     ensures end { result ≡ at + length (bills_text month bills.now) }
     ensures text { out.new ≡ overwritten_text out.old at (bills_text month bills.now) }

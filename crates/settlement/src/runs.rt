@@ -92,11 +92,11 @@ fn run_body<R: SharingRule, T: Tariff>(
     ensures terms { KeepsTerms book.old book.new }
 {
     let mut written = at;
-    let mut number = 1;
+    let mut line = 1;
     let mut rest = body;
-    while let Some((line, after)) = next_line(rest) {
-        number += 1;
-        match run_line(book, line, number, out, written) {
+    while let Some((text, after)) = next_line(rest) {
+        line += 1;
+        match run_line(book, text, line, out, written) {
             Ok(end) => written = end,
             Err(fault) => {
                 let fault = Some(fault);
