@@ -20,7 +20,7 @@ use Rattle.balance.proofs.Slots.{tally_in}
 use Rattle.balance.specs.Postings.{kwh_billed_by}
 
 -- a net is its need less its surplus
-net_is : (z : ℤ) → pos (need z) -ℤ pos (surplus z) ≡ z
+pub net_is : (z : ℤ) → pos (need z) -ℤ pos (surplus z) ≡ z
 net_is (pos n) = omega (arith, ints)
 net_is (negsuc n) = omega (arith, ints)
 

@@ -2,6 +2,9 @@ pub mod Balances
 pub mod CurrentDrafts
 pub mod Debts
 pub mod Histories
+pub mod Issues
+pub mod Phases
 pub mod Postings
 pub mod Runs
 pub mod Sample
+pub mod Told

@@ -2,8 +2,11 @@
 ghost use Rattle.balance.specs.CurrentDrafts.{DraftsByCall, DraftsByHistory};
 ghost use Rattle.balance.specs.Debts.{IssuesTellDebts, YearEndsTellDebts};
 ghost use Rattle.balance.specs.Histories.{LeadsToOneGroup};
+ghost use Rattle.balance.specs.Issues.{IssuesShare, IssuesWriteDrawings, NetsSplit};
+ghost use Rattle.balance.specs.Phases.{MonthsFollow, YearsFollow};
 ghost use Rattle.balance.specs.Runs.{EveryRunBalances};
 ghost use Rattle.balance.specs.Sample.{SampleTells};
+ghost use Rattle.balance.specs.Told.{EntriesAreCounted, TermsStay};
 
 /// Any list of calls on a blank book, by any rule that keeps the law of sharing and any tariff, is balanced at the start and after each call.
 pub fn every_run_balances()
@@ -30,4 +33,31 @@ pub fn debts_are_told()
 pub fn drafts_are_current_while_nothing_is_posted()
     ensures by_call { DraftsByCall }
     ensures by_history { DraftsByHistory }
+{}
+
+/// An accepted issue covers in each zone, in order of place, just what the rule shares of the pool among the members' needs; billed and covered are each member's need, and carried on and covered the pool. A net is its need less its surplus, of which one is nothing.
+pub fn issues_share_by_the_rule()
+    ensures by_zones { IssuesShare }
+    ensures by_nets { NetsSplit }
+{}
+
+/// An accepted issue writes the lines of a drawing that is made now, which has the three numbers of the draft that is issued.
+pub fn issues_write_what_is_drawn()
+    ensures { IssuesWriteDrawings }
+{}
+
+/// After an accepted issue the year end of its month follows exactly where that is a December, else the next month opens; after the closing of a year the next January opens, but after December 2099 the book is over.
+pub fn phases_follow_the_calendar()
+    ensures by_months { MonthsFollow }
+    ensures by_years { YearsFollow }
+{}
+
+/// In every history that leads to a group, the group counts just the entries that were posted since the last issue.
+pub fn entries_are_counted()
+    ensures { EntriesAreCounted }
+{}
+
+/// In every history that leads to a group, the group has a member for each record that it opened with, in order of place, of the same capacity and class.
+pub fn capacities_and_classes_stay()
+    ensures { TermsStay }
 {}

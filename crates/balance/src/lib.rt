@@ -4,6 +4,7 @@
 mod law;
 
 pub use law::{
-    debts_are_told, drafts_are_current_while_nothing_is_posted, every_run_balances,
-    history_leads_to_one_group, sample_tells,
+    capacities_and_classes_stay, debts_are_told, drafts_are_current_while_nothing_is_posted,
+    entries_are_counted, every_run_balances, history_leads_to_one_group, issues_share_by_the_rule,
+    issues_write_what_is_drawn, phases_follow_the_calendar, sample_tells,
 };

@@ -1,5 +1,5 @@
 -- Runs that stop at a line, and why.
-use Rattle.std.proofs.Common.{◌≡◌, ℕ, ◌+◌, ◌≤◌, ◌++◌, List, [], ◌∷◌, length, get_or, inr, Ok, Err, Result, codes, refl, sym, ap, subst₂, arith, lit≤}
+use Rattle.std.proofs.Common.{◌≡◌, ℕ, ◌+◌, ◌<◌, ◌≤◌, ◌++◌, List, [], ◌∷◌, length, get_or, inr, Ok, Err, Result, codes, refl, sym, ap, subst₂, arith, lit≤}
 use Rattle.std.proofs.lemmas.List.{length-append}
 use Rattle.std.specs.Fmt.{digits}
 use Rattle.calendar.specs.Dates.{date_after, date_of_day}
@@ -21,7 +21,7 @@ use Rattle.journal.specs.Names.{journal_names}
 use Rattle.worked_cases.proofs.LeapDays.{read_or_refused}
 use Rattle.worked_cases.proofs.Months.{issue_read, reading}
 use Rattle.worked_cases.proofs.Running.{Lines, alone, body_alone, line_done, line_refused}
-use Rattle.worked_cases.specs.Orders.{LinesRefusesInOrder, year_end}
+use Rattle.worked_cases.specs.Orders.{LengthAtEdge, LinesRefusesInOrder, year_end}
 use Rattle.worked_cases.specs.Runs.{TellsFault, RunsTo, StopsWith}
 use Rattle.settlement.specs.Faults.{fault_at, fault_line}
 use Rattle.settlement.specs.Laws.{HasOneOutcome}
@@ -131,3 +131,23 @@ lines_in_order one = record {
   room_later = one_line one 4096 4044 group_of_two issue (codes "FAULT,2,0,TEXT,27\n") (Ok Issue) refused.Room refl (lit≤ tt) (lit≤ tt) (lit≤ tt) refl issue_read refl refl;
   accepted = accepted one;
 }
+
+-- ---- how long a journal may be
+
+-- a text that is too long is no journal
+too_long_for_one : (body found : List ℕ) → 65536 < length (journal_names ++ body) → IsJournal (journal_names ++ body) found → ⊥
+too_long_for_one body found long is = omega (arith, long, is.0)
+
+too_long : HasOneOutcome → (body : List ℕ) → 65536 < length (journal_names ++ body) → RunsTo 65536 group_of_two (journal_names ++ body) [] (codes "FAULT,1,0,TEXT,24\n")
+unfolding digits
+too_long one body long = alone one 65536 group_of_two (journal_names ++ body) [] (codes "FAULT,1,0,TEXT,24\n") (stopped_run 1 refused.Journal group_of_two) (no_journal (λ found is. too_long_for_one body found long is)) (refl, refl)
+
+longest : HasOneOutcome → (body : List ℕ) → length (journal_names ++ (10 ∷ body)) ≡ 65536 → StopsWith 65536 group_of_two (10 ∷ body) (codes "FAULT,2,0,TEXT,25\n")
+unfolding digits
+longest one body long =
+    body_alone one 65536 group_of_two (10 ∷ body) names (codes "FAULT,2,0,TEXT,25\n") (stopped_run 2 (refused.Line reads.Fields) group_of_two) (omega (arith, long)) (lit≤ tt)
+    (line_refused 65484 2 (10 ∷ []) (text_lines body) (Err (record { line = 2; refusal = reads.Fields })) group_of_two (refused.Line reads.Fields) (refl, few_bytes (10 ∷ []) (lit≤ tt)) refl)
+    (refl, refl)
+
+pub length_at_edge : HasOneOutcome → LengthAtEdge
+length_at_edge one = record { too_long = too_long one; longest = longest one }

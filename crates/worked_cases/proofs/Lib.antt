@@ -5,4 +5,5 @@ mod Numbering
 mod Ordering
 mod Readings
 mod Running
+mod Scarce
 mod Years

@@ -1,9 +1,9 @@
--- A reading that equals its register, and one that is one lower.
+-- A reading that equals its register, and one that is one lower; and the most that a tally takes.
 use Rattle.std.proofs.Common.{◌≡◌, ℕ, ◌+◌, ◌<◌, ◌≤◌, pos, Some, Ok, Err, refl, arith}
 use Rattle.std.proofs.lemmas.Bool.Decides.{nat_tests}
 use Rattle.group.specs.Registers.{opened_register, quantity, with_reading}
 use Rattle.group.specs.declared.refusal.BookRefusal.TheVariants.{Below}
-use Rattle.worked_cases.specs.Cases.{ReadsAgain}
+use Rattle.worked_cases.specs.Cases.{ReadsAgain, TalliesAsWorked}
 
 nothing_more : (value : ℕ) → quantity value value ≡ Some 0
 unfolding quantity
@@ -22,3 +22,7 @@ one_lower value small = grind (arith, nat_tests)
 
 pub read_again : ReadsAgain
 read_again = record { nothing_more = nothing_more; as_before = as_before; higher = higher; one_lower = one_lower; by_number = refl }
+
+pub tallied : TalliesAsWorked
+unfolding quantity
+tallied = record { stands = refl; one_more = refl; one_more_read = refl; stands_below = refl; one_less = refl; by_number = refl }

@@ -1,12 +1,11 @@
 -- Worked cases of the rules, each from the definitions that the contracts of the code cite.
-use Rattle.std.specs.Prelude.{◌≡◌, ℕ, ◌+◌, ◌<◌, ◌≤◌, List, [], ◌∷◌, replicate, pos, negsuc, ◌+ℤ◌, Some, None, Ok, Err, codes}
-use Rattle.std.specs.Int.{int_rem_euclid}
-use Rattle.billing.specs.Accounts.{drams_of, sum_owed}
+use Rattle.std.specs.Prelude.{◌≡◌, ℕ, ◌+◌, ◌<◌, ◌≤◌, List, [], ◌∷◌, map, replicate, ℤ, pos, negsuc, Some, None, Ok, Err, codes}
 use Rattle.billing.specs.declared.account.Account.{Account}
 use Rattle.calendar.specs.Dates.{day_of_date}
 use Rattle.calendar.specs.declared.date.Date.{Date}
+use Rattle.group.specs.Months.{posted_account}
 use Rattle.group.specs.Refusals.{book_refusal_number}
-use Rattle.group.specs.Registers.{opened_register, quantity, with_reading, tally_with}
+use Rattle.group.specs.Registers.{with_correction, opened_register, quantity, with_reading}
 use Rattle.group.specs.declared.refusal.BookRefusal.TheVariants.{Below, Tally}
 use Rattle.group.specs.declared.register.Register.{Register}
 use Rattle.journal.specs.Lines.{ReadsLine}
@@ -16,8 +15,14 @@ use Rattle.journal.specs.declared.refusal.ReadRefusal.TheVariants.{Form}
 use Rattle.ledger.specs.declared.entry.Entry.TheVariants.{Reading}
 use Rattle.ledger.specs.declared.entry.MemberRegister.{MemberRegister}
 use Rattle.ledger.specs.declared.zone.Flow.TheVariants.{Delivered}
-use Rattle.ledger.specs.declared.zone.Zone.TheVariants.{Day}
+use Rattle.ledger.specs.declared.zone.Zone.TheVariants.{Day, Night}
 use Rattle.sharing.specs.Rules.{line_order, proportion, with_parts}
+use Rattle.tariff.specs.Charges.{charged_price}
+use Rattle.tariff.specs.declared.class.Class.{Class}
+use Rattle.tariff.specs.declared.class.Class.TheVariants.{Household, Other, Vulnerable}
+use Rattle.tariff.specs.declared.prices.ClassPrices.{ClassPrices}
+use Rattle.tariff.specs.declared.prices.PriceTable.{PriceTable}
+use Rattle.tariff.specs.declared.service.Service.TheVariants.{Distribution, Energy, YearEnd}
 
 -- three places that need 3 kWh each
 abbrev pub needs : List ℕ
@@ -50,9 +55,8 @@ abbrev account : Account
 account = record { debt = pos 0; fraction = 30 }
 
 -- a credit of 1,000 hundredths leaves it with a debt of -10 drams and the same 30 hundredths
-pub record CreditsAsWorked : Type 0 where
-  pub ten_drams_less : account.debt +ℤ drams_of account (negsuc 999) ≡ negsuc 9
-  pub the_fraction_kept : int_rem_euclid (sum_owed account (negsuc 999)) (pos 100) ≡ pos 30
+abbrev pub CreditsAsWorked : Type 0
+CreditsAsWorked = posted_account account (negsuc 999) ≡ record { debt = negsuc 9; fraction = 30 }
 
 -- the register of what the member at place 0 delivers by day
 abbrev pub register : MemberRegister
@@ -80,8 +84,47 @@ pub record ReadsAgain : Type 0 where
   pub one_lower : (value : ℕ) → value < 9999999 → with_reading 0 0 value value (standing (value + 1)) ≡ Err Below
   pub by_number : book_refusal_number Below ≡ 17
 
--- 999,999 kWh and one more are the most that a tally takes; with the next one the entry is refused by 18
+-- a register that stands at 0, with this tally
+abbrev with_tally : ℤ → Register
+with_tally kwh = record (standing 0) { tally = kwh }
+
+-- 999,999 kWh and one more are the most that a tally takes; the correction of a register by the next one is refused by 18,
+-- and so is the reading that tells it; as far below 0 it is the same
 pub record TalliesAsWorked : Type 0 where
-  pub stands : tally_with (pos 999999) (pos 1) ≡ Ok (pos 1000000)
-  pub one_more : tally_with (pos 1000000) (pos 1) ≡ Err Tally
+  pub stands : with_correction (pos 1) (with_tally (pos 999999)) ≡ Ok (with_tally (pos 1000000))
+  pub one_more : with_correction (pos 1) (with_tally (pos 1000000)) ≡ Err Tally
+  pub one_more_read : with_reading 0 0 1 1 (with_tally (pos 1000000)) ≡ Err Tally
+  pub stands_below : with_correction (negsuc 0) (with_tally (negsuc 999998))
+      ≡ Ok (with_tally (negsuc 999999))
+  pub one_less : with_correction (negsuc 0) (with_tally (negsuc 999999)) ≡ Err Tally
   pub by_number : book_refusal_number Tally ≡ 18
+
+-- five prices that follow one another, in the order of the services
+abbrev five_from : ℕ → ClassPrices
+five_from first = record {
+  energy = record { day = first; night = first + 1 };
+  distribution = first + 2;
+  year_end = record { day = first + 3; night = first + 4 };
+}
+
+-- fifteen stored prices, no two of them the same
+abbrev fifteen : PriceTable
+fifteen = record { household = five_from 1; other = five_from 6; vulnerable = five_from 11 }
+
+-- what a class is charged by them for each service
+abbrev charged_to : Class → List ℕ
+charged_to class =
+    map (λ service. charged_price fifteen service class)
+    (Energy Day ∷ Energy Night ∷ Distribution ∷ YearEnd Day ∷ YearEnd Night ∷ [])
+
+-- the same with another price for the distribution to a household
+abbrev with_price : ℕ → PriceTable
+with_price price = record fifteen { household = record (five_from 1) { distribution = price } }
+
+-- each service and class has the price that is stored for it, and of a price over 100,000 only so much is charged
+pub record Charged : Type 0 where
+  pub household : charged_to Household ≡ 1 ∷ 2 ∷ 3 ∷ 4 ∷ 5 ∷ []
+  pub other : charged_to Other ≡ 6 ∷ 7 ∷ 8 ∷ 9 ∷ 10 ∷ []
+  pub vulnerable : charged_to Vulnerable ≡ 11 ∷ 12 ∷ 13 ∷ 14 ∷ 15 ∷ []
+  pub highest : charged_price (with_price 100000) Distribution Household ≡ 100000
+  pub over_the_highest : charged_price (with_price 100001) Distribution Household ≡ 100000

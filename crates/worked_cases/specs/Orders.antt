@@ -1,12 +1,14 @@
--- The order in which a call tests its input: an input in which all refusals hold that can hold together is answered by the
--- first; with that mended it is answered by the next, and so on down to one that is accepted.
-use Rattle.std.specs.Prelude.{◌≡◌, ℕ, ℤ, pos, negsuc, IsOk, List, [], ◌∷◌, ◌++◌, replicate, Ok, Err, Result, codes}
+-- The order in which a call tests its input: an input in which a refusal holds with those after it that can hold beside it is
+-- answered by it, and so on down to one that is accepted. And the edges of the tests: the last input that is taken, and the
+-- first that is not.
+use Rattle.std.specs.Prelude.{◌≡◌, ℕ, ◌<◌, ℤ, pos, negsuc, IsOk, List, [], ◌∷◌, ◌++◌, length, replicate, Ok, Err, Result, codes}
 use Rattle.billing.specs.Zones.{zone_answer}
 use Rattle.group.specs.Groups.{blank}
 use Rattle.group.specs.Members.{opened_flows, opened_member, opening_record}
 use Rattle.group.specs.Registers.{opened_register}
 use Rattle.group.specs.declared.group.Group.{Group}
-use Rattle.group.specs.declared.group.Phase.TheVariants.{YearEnd}
+use Rattle.group.specs.declared.group.Phase.{Phase}
+use Rattle.group.specs.declared.group.Phase.TheVariants.{Open, Over, YearEnd}
 use Rattle.group.specs.declared.member.Member.{Member}
 use Rattle.group.specs.declared.member.OpeningRecord.{OpeningRecord}
 use Rattle.group.specs.declared.refusal.BookRefusal.{BookRefusal}
@@ -15,6 +17,7 @@ use Rattle.ledger.specs.declared.bill.Bill.{Bill}
 use Rattle.ledger.specs.declared.entry.Entry.{Entry}
 use Rattle.ledger.specs.declared.entry.Entry.TheVariants.{Change, Correction, Payment, Reading}
 use Rattle.ledger.specs.declared.entry.MemberRegister.{MemberRegister}
+use Rattle.ledger.specs.declared.zone.ByFlow.{ByFlow}
 use Rattle.ledger.specs.declared.zone.Flow.TheVariants.{Consumed}
 use Rattle.ledger.specs.declared.zone.Zone.TheVariants.{Day}
 use Rattle.worked_cases.specs.Runs.{RunsTo, StopsWith, journal_of}
@@ -25,6 +28,7 @@ use Rattle.sharing.specs.declared.refusal.ShareRefusal.TheVariants as sharing
 use Rattle.group.specs.Books.{after_opening}
 use Rattle.group.specs.Drafts.{Stamp, drawing_result, issue_result}
 use Rattle.group.specs.Entries.{after_entry}
+use Rattle.group.specs.Results.{result_map}
 use Rattle.group.specs.Years.{closing_result, preview_result}
 use Rattle.tariff.specs.declared.class.Class.TheVariants.{Household}
 use Rattle.two.specs.Two.{household, prices, producer, group_of_two}
@@ -63,6 +67,36 @@ pub record OpeningRefusesInOrder : Type 0 where
   pub register : after_opening 7 1199 31 (alike 32 32 10000000) blank ≡ Err book.Register
   pub accepted : IsOk (after_opening 7 1199 31 (alike 32 32 9999999) blank)
   pub two_opens : after_opening 7 288 0 (producer ∷ household ∷ []) blank ≡ Ok group_of_two
+
+-- what an opening in a month comes to, with a holder and these records
+abbrev opening_in : (start holder : ℕ) → List OpeningRecord → Result Group BookRefusal
+opening_in start holder records = after_opening 7 start holder records blank
+
+-- so many kWh that are consumed, and so many that are delivered
+abbrev flows : (consumed delivered : ℕ) → ByFlow ℕ
+flows consumed delivered = record { consumed = consumed; delivered = delivered }
+
+-- one record of 1 kW whose registers open at these kWh
+abbrev opened_at : (day night : ByFlow ℕ) → List OpeningRecord
+opened_at day night = opening_record 1 Household (record { day = day; night = night }) ∷ []
+
+-- how many records there may be, what capacities, which holder and month, and what each register may open at
+pub record OpeningAtEdges : Type 0 where
+  pub no_record : opening_in 288 0 [] ≡ Err book.Count
+  pub one_record : IsOk (opening_in 288 0 (alike 1 1 0))
+  pub records_of_32 : IsOk (opening_in 288 0 (alike 32 1 0))
+  pub records_of_33 : opening_in 288 0 (alike 33 1 0) ≡ Err book.Count
+  pub last_month : IsOk (opening_in 1199 0 (alike 1 1 0))
+  pub no_month_more : opening_in 1200 0 (alike 1 1 0) ≡ Err book.Start
+  pub capacity_of_151 : opening_in 288 0 (alike 1 151 0) ≡ Err book.Capacity
+  pub capacities_of_1050 : IsOk (opening_in 288 0 (alike 7 150 0))
+  pub capacities_of_1051 : opening_in 288 0 (alike 7 150 0 ++ alike 1 1 0) ≡ Err book.Capacity
+  pub holder_of_0 : opening_in 288 1 (producer ∷ household ∷ []) ≡ Err book.Holder
+  pub registers : IsOk (opening_in 288 0 (opened_at (flows 9999999 9999999) (flows 9999999 9999999)))
+  pub day_consumed : opening_in 288 0 (opened_at (flows 10000000 0) (flows 0 0)) ≡ Err book.Register
+  pub day_delivered : opening_in 288 0 (opened_at (flows 0 10000000) (flows 0 0)) ≡ Err book.Register
+  pub night_consumed : opening_in 288 0 (opened_at (flows 0 0) (flows 10000000 0)) ≡ Err book.Register
+  pub night_delivered : opening_in 288 0 (opened_at (flows 0 0) (flows 0 10000000)) ≡ Err book.Register
 
 -- ---- entries
 
@@ -150,6 +184,35 @@ pub record PaymentRefusesInOrder : Type 0 where
   pub accepted : entering nearly_full (Payment 1 50000000)
       ≡ Ok (january 1000 500 (pos 1000000) (negsuc 999999999))
 
+-- payments and corrections of the household, which owes nothing and has no tally; and the payment that is one dram more than
+-- may be paid in advance
+pub record AmountsAtEdges : Type 0 where
+  pub payment_of_0 : entering group_of_two (Payment 1 0) ≡ Err book.Value
+  pub payment_of_1 : entering group_of_two (Payment 1 1) ≡ Ok (january 1 0 (pos 0) (negsuc 0))
+  pub largest_payment : entering group_of_two (Payment 1 100000000)
+      ≡ Ok (january 1 0 (pos 0) (negsuc 99999999))
+  pub larger_payment : entering group_of_two (Payment 1 100000001) ≡ Err book.Value
+  pub too_far_ahead : entering nearly_full (Payment 1 50000001) ≡ Err book.Debt
+  pub most_added : entering group_of_two (Correction (used 1) (pos 1000000))
+      ≡ Ok (january 1 0 (pos 1000000) (pos 0))
+  pub more_added : entering group_of_two (Correction (used 1) (pos 1000001)) ≡ Err book.Value
+  pub most_taken : entering group_of_two (Correction (used 1) (negsuc 999999))
+      ≡ Ok (january 1 0 (negsuc 999999) (pos 0))
+  pub more_taken : entering group_of_two (Correction (used 1) (negsuc 1000000)) ≡ Err book.Value
+
+-- the group of two in January with the household's register at 9,000,000 kWh
+abbrev high : Group
+high = january 0 9000000 (pos 0) (pos 0)
+
+-- readings of that register, and changes to a new meter
+pub record ValuesAtEdges : Type 0 where
+  pub largest : entering high (Reading (used 1) 8796 9999999)
+      ≡ Ok (january 1 9999999 (pos 999999) (pos 0))
+  pub larger : entering high (Reading (used 1) 8796 10000000) ≡ Err book.Value
+  pub largest_start : entering high (Change (used 1) 8796 9000000 9999999)
+      ≡ Ok (january 1 9999999 (pos 0) (pos 0))
+  pub larger_start : entering high (Change (used 1) 8796 9000000 10000000) ≡ Err book.Value
+
 -- ---- drawing, issue and the year's end
 
 -- a drawing by proportion, with so many places for lines
@@ -184,6 +247,29 @@ pub record ClosingRefusesInOrder : Type 0 where
   pub no_figures : preview_result (λ month. prices) nearly_full ≡ Err book.NoYearEnd
   pub figures : IsOk (preview_result (λ month. prices) year_end)
 
+-- the group of two in a phase
+abbrev in_phase : Phase → Group
+in_phase phase = record group_of_two { phase = phase }
+
+-- the phase that the issue of a month leads to
+abbrev issued_to : (month : ℕ) → Result Phase BookRefusal
+issued_to month = result_map (λ issue. issue.1.phase) (issuing (in_phase (Open month)) 7 month 0 2)
+
+-- the phase that the closing of a December leads to
+abbrev closed_to : (december : ℕ) → Result Phase BookRefusal
+closed_to december =
+    result_map (λ closing. closing.1.phase) (closing_result (λ month. prices) (in_phase (YearEnd december)))
+
+-- after November 2023 comes December and after that the year end, and so in 2099; after December 2098 comes January 2099, and
+-- after December 2099 nothing
+pub record PhasesInOrder : Type 0 where
+  pub november : issued_to 286 ≡ Ok (Open 287)
+  pub december : issued_to 287 ≡ Ok (YearEnd 287)
+  pub last_november : issued_to 1198 ≡ Ok (Open 1199)
+  pub last_december : issued_to 1199 ≡ Ok (YearEnd 1199)
+  pub next_year : closed_to 1187 ≡ Ok (Open 1188)
+  pub no_next_year : closed_to 1199 ≡ Ok Over
+
 -- ---- a line of a journal
 
 -- what an issue of January writes where nothing was entered
@@ -201,3 +287,11 @@ pub record LinesRefusesInOrder : Type 0 where
   pub book : StopsWith 4096 year_end (codes "ISSUE,-,-,-,-,-,-\n") (codes "FAULT,2,0,BOOK,11\n")
   pub room_later : StopsWith 4096 group_of_two (codes "ISSUE,-,-,-,-,-,-\n") (codes "FAULT,2,0,TEXT,27\n")
   pub accepted : RunsTo 65536 group_of_two (journal_of (codes "ISSUE,-,-,-,-,-,-\n")) bills_of_nothing []
+
+-- a text of more than 65,536 bytes is no journal, whatever stands behind the line of names; one of 65,536 is one, so that
+-- its run gets as far as its first line
+pub record LengthAtEdge : Type 0 where
+  pub too_long : (body : List ℕ) → 65536 < length (journal_of body)
+      → RunsTo 65536 group_of_two (journal_of body) [] (codes "FAULT,1,0,TEXT,24\n")
+  pub longest : (body : List ℕ) → length (journal_of (codes "\n" ++ body)) ≡ 65536
+      → StopsWith 65536 group_of_two (codes "\n" ++ body) (codes "FAULT,2,0,TEXT,25\n")

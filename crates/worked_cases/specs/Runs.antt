@@ -79,6 +79,30 @@ year_bills = concat
 abbrev pub SettlesYear : Type 0
 SettlesYear = RunsTo 65536 december year_journal year_bills []
 
+-- the group of two in December 2023, with 5 kWh carried by day
+abbrev pub scarce : Group
+scarce = record group_of_two { carried = record { day = 5; night = 0 }; phase = Open 287 }
+
+-- its journal: each member needs 3 kWh by day, and there are 5
+abbrev pub scarce_journal : List ℕ
+scarce_journal = concat
+    (codes "kind,member,zone,flow,value,second,date\n"
+    ∷ codes "READ,0,DAY,USE,3,-,2023-12-31\n"
+    ∷ codes "READ,1,DAY,USE,3,-,2023-12-31\n"
+    ∷ codes "ISSUE,-,-,-,-,-,-\n" ∷ [])
+
+-- its bills: the first is covered for ⌊5 · 3 / 6⌋ and the second for the rest, where line order would cover 3 and 2;
+-- 1 × 45.00 + 2 × 10.00 and 3 × 10.00 drams
+abbrev pub scarce_bills : List ℕ
+scarce_bills = concat
+    (codes "line,month,place,dayb,nightb,dayc,nightc,drams,debt\n"
+    ∷ codes "BILL,2023-12,0,1,0,2,0,65,65\n"
+    ∷ codes "BILL,2023-12,1,0,0,3,0,30,30\n" ∷ [])
+
+-- a month whose pool does not reach for all needs
+abbrev pub ScarceSettled : Type 0
+ScarceSettled = RunsTo 65536 scarce scarce_journal scarce_bills []
+
 -- a journal of the line of names and this
 abbrev pub journal_of : List ℕ → List ℕ
 journal_of body = codes "kind,member,zone,flow,value,second,date\n" ++ body

@@ -1,10 +1,10 @@
 //! The worked cases of the project, proved together.
 #![tactic(auto)]
 
-ghost use Rattle.worked_cases.specs.Cases.{CreditsAsWorked, DatesAsWorked, ReadsAgain, ReadsLeapDayOnly, SharesAsWorked, TalliesAsWorked};
+ghost use Rattle.worked_cases.specs.Cases.{Charged, CreditsAsWorked, DatesAsWorked, ReadsAgain, ReadsLeapDayOnly, SharesAsWorked, TalliesAsWorked};
 ghost use Rattle.worked_cases.specs.Numbers.{NumbersRefusals, AsksForRoom};
-ghost use Rattle.worked_cases.specs.Orders.{ChangeRefusesInOrder, ClosingRefusesInOrder, CorrectionRefusesInOrder, DrawingRefusesInOrder, IssueRefusesInOrder, LinesRefusesInOrder, OpeningRefusesInOrder, PaymentRefusesInOrder, ReadingRefusesInOrder, SharingRefusesInOrder};
-ghost use Rattle.worked_cases.specs.Runs.{TellsFault, SettlesMonth, SettlesYear};
+ghost use Rattle.worked_cases.specs.Orders.{AmountsAtEdges, ChangeRefusesInOrder, ClosingRefusesInOrder, CorrectionRefusesInOrder, DrawingRefusesInOrder, IssueRefusesInOrder, LengthAtEdge, LinesRefusesInOrder, OpeningAtEdges, OpeningRefusesInOrder, PaymentRefusesInOrder, PhasesInOrder, ReadingRefusesInOrder, SharingRefusesInOrder, ValuesAtEdges};
+ghost use Rattle.worked_cases.specs.Runs.{TellsFault, SettlesMonth, ScarceSettled, SettlesYear};
 
 use settlement::one_outcome;
 
@@ -16,7 +16,9 @@ pub fn cases_stand()
     ensures read_again { ReadsAgain }
     ensures shared { SharesAsWorked }
     ensures tallied { TalliesAsWorked }
+    ensures charged { Charged }
     ensures month_settled { SettlesMonth }
+    ensures scarce_settled { ScarceSettled }
     ensures year_settled { SettlesYear }
     ensures fault_told { TellsFault }
     ensures numbered { NumbersRefusals }
@@ -31,6 +33,11 @@ pub fn cases_stand()
     ensures issue_in_order { IssueRefusesInOrder }
     ensures closing_in_order { ClosingRefusesInOrder }
     ensures lines_in_order { LinesRefusesInOrder }
+    ensures opening_at_edges { OpeningAtEdges }
+    ensures amounts_at_edges { AmountsAtEdges }
+    ensures values_at_edges { ValuesAtEdges }
+    ensures phases_in_order { PhasesInOrder }
+    ensures length_at_edge { LengthAtEdge }
 {
     lines_stand();
     registers_stand();
@@ -53,9 +60,11 @@ fn registers_stand()
 // Holds the proof of the cases on whole runs.
 fn runs_stand()
     ensures month_settled { SettlesMonth }
+    ensures scarce_settled { ScarceSettled }
     ensures year_settled { SettlesYear }
     ensures fault_told { TellsFault }
     ensures lines_in_order { LinesRefusesInOrder }
+    ensures length_at_edge { LengthAtEdge }
 {
     one_outcome();
 }
@@ -66,8 +75,12 @@ fn numbers_stand()
     ensures roomed { AsksForRoom }
 {}
 
-// Holds the proof of the cases on the order of the tests.
+// Holds the proof of the cases on the order of the tests, and on their edges.
 fn orders_stand()
     ensures reading_in_order { ReadingRefusesInOrder }
     ensures change_in_order { ChangeRefusesInOrder }
+    ensures opening_at_edges { OpeningAtEdges }
+    ensures amounts_at_edges { AmountsAtEdges }
+    ensures values_at_edges { ValuesAtEdges }
+    ensures phases_in_order { PhasesInOrder }
 {}

@@ -1,5 +1,6 @@
-use Rattle.worked_cases.proofs.Faults.{fault_told, lines_in_order}
+use Rattle.worked_cases.proofs.Faults.{fault_told, length_at_edge, lines_in_order}
 use Rattle.worked_cases.proofs.Months.{month_settled}
+use Rattle.worked_cases.proofs.Scarce.{scarce_settled}
 use Rattle.worked_cases.proofs.Years.{year_settled}
 use Rattle.worked_cases.proofs.runs_stand.Goals as goal
 
@@ -14,3 +15,9 @@ returns-clause-lines_in_order c = lines_in_order c.one_outcome.ensures
 
 pub returns-clause-year_settled : goal.returns-clause-year_settled
 returns-clause-year_settled c = year_settled c.one_outcome.ensures
+
+pub returns-clause-scarce_settled : goal.returns-clause-scarce_settled
+returns-clause-scarce_settled c = scarce_settled c.one_outcome.ensures
+
+pub returns-clause-length_at_edge : goal.returns-clause-length_at_edge
+returns-clause-length_at_edge c = length_at_edge c.one_outcome.ensures

@@ -1,0 +1,122 @@
+-- What a history tells of the entries and the members of the group that it leads to.
+use Rattle.std.proofs.Common.{◌≡◌, ℕ, zero, suc, ◌+◌, List, [], ◌∷◌, ◌++◌, map, set, get_or, slice_get, Some, Ok, Err, Result, refl, sym, ap, ap₂, ◌∙◌, subst}
+use Rattle.billing.specs.declared.account.Account.{Account}
+use Rattle.billing.specs.declared.supply.Supply.{Supply}
+use Rattle.ledger.specs.declared.bill.YearEnd.{YearEnd}
+use Rattle.ledger.specs.declared.entry.Entry.{Entry}
+use Rattle.ledger.specs.declared.entry.Entry.TheVariants.{Reading, Change, Correction, Payment}
+use Rattle.ledger.specs.declared.entry.MemberRegister.{MemberRegister}
+use Rattle.ledger.specs.declared.zone.ByZone.{ByZone}
+use Rattle.group.proofs.Stepping.{and_then_ok, made_ok}
+use Rattle.group.specs.Books.{opening_phase}
+use Rattle.group.specs.Entries.{open_month, place_of, recorded_member}
+use Rattle.group.specs.Groups.{entry_result, blank, members_of, opening_group, opening_check}
+use Rattle.group.specs.Members.{nobody, on_account, on_register, opened_member, register_at, with_register}
+use Rattle.group.specs.Months.{Prices, Share, billed_member, by_place, supplies_at}
+use Rattle.group.specs.Payments.{with_payment}
+use Rattle.group.specs.Registers.{with_correction, with_reading}
+use Rattle.group.specs.Years.{after_year, credited_account, holder_of, open_year, year_figures}
+use Rattle.group.specs.declared.group.Group.{Group}
+use Rattle.group.specs.declared.group.Phase.TheVariants.{Open}
+use Rattle.group.specs.declared.member.Member.{Member}
+use Rattle.group.specs.declared.member.OpeningRecord.{OpeningRecord}
+use Rattle.group.specs.declared.refusal.BookRefusal.{BookRefusal}
+use Rattle.group.specs.declared.register.Register.{Register}
+use Rattle.balance.proofs.Entries.{altered_found}
+use Rattle.balance.proofs.Theorem.{issued_is}
+use Rattle.balance.specs.Histories.{Event, Opening, Entering, Drawing, Checking, Issuing, Withdrawing, Closing, Happens, Leads}
+use Rattle.balance.specs.Postings.{AcceptedCall, accepted_call, accepted_calls}
+use Rattle.balance.specs.Told.{EntriesAreCounted, TermsStay, entries_since, opening_terms, records_in, terms}
+
+-- the group has the entries that were posted since the last issue, and the members that it opened with
+record Tells (posts : List AcceptedCall) (group : Group) : Type 0 where
+  entries : group.entries ≡ entries_since posts
+  members : map terms group.members.items ≡ map opening_terms (records_in posts)
+
+-- one element is replaced by one of which the same is told
+told_after_set : {A B : Type 0} (f : A → B) (xs : List A) (i : ℕ) (y d : A) → f y ≡ f (get_or xs i d) → map f (set xs i y) ≡ map f xs
+told_after_set f [] i y d same = refl
+told_after_set f (x ∷ xs) zero y d same = ap (λ z. z ∷ map f xs) same
+told_after_set f (x ∷ xs) (suc i) y d same = ap (λ l. f x ∷ l) (told_after_set f xs i y d same)
+
+told_of_found : {A B : Type 0} (f : A → B) (xs : List A) (i : ℕ) (x y : A) → slice_get xs i ≡ Some x → f y ≡ f x → map f (set xs i y) ≡ map f xs
+told_of_found f [] i x y found same = refl
+told_of_found f (z ∷ zs) zero x y found same = let e : z ≡ x = cc in ap (λ w. w ∷ map f zs) (same ∙ ap f (sym e))
+told_of_found f (z ∷ zs) (suc i) x y found same = ap (λ l. f z ∷ l) (told_of_found f zs i x y found same)
+
+-- each element is replaced by one of which the same is told
+told_by_place : {A B : Type 0} (f : A → B) (g : ℕ → A → A) → ((place : ℕ) (x : A) → f (g place x) ≡ f x) → (first : ℕ) (xs : List A) → map f (by_place g first xs) ≡ map f xs
+told_by_place f g same first [] = refl
+told_by_place f g same first (x ∷ xs) = ap₂ (λ z l. z ∷ l) (same first x) (told_by_place f g same (first + 1) xs)
+
+told_of_opened : (records : List OpeningRecord) → map terms (map opened_member records) ≡ map opening_terms records
+told_of_opened [] = refl
+told_of_opened (record' ∷ records) = ap (λ l. opening_terms record' ∷ l) (told_of_opened records)
+
+billed_terms : (price : Prices) (member : Member) (supplies : ByZone Supply) → terms (billed_member price member supplies) ≡ terms member
+unfolding billed_member
+billed_terms price member supplies = refl
+
+on_register_terms : (at : MemberRegister) (step : Register → Result Register BookRefusal) (member changed : Member) → on_register at step member ≡ Ok changed → terms changed ≡ terms member
+on_register_terms at step member changed is =
+    let (register, took, becomes) = made_ok (λ (r : Register). with_register at r member) (step (register_at at member)) changed is in
+    ap terms (sym becomes)
+
+on_account_terms : (step : Account → Result Account BookRefusal) (member changed : Member) → on_account step member ≡ Ok changed → terms changed ≡ terms member
+on_account_terms step member changed is =
+    let (account, took, becomes) = made_ok (λ (a : Account). record member { account = a }) (step member.account) changed is in
+    ap terms (sym becomes)
+
+recorded_terms : (month : ℕ) (entry : Entry) (member changed : Member) → recorded_member month entry member ≡ Ok changed → terms changed ≡ terms member
+recorded_terms month (Reading at day value) member changed is = on_register_terms at (with_reading month day value value) member changed is
+recorded_terms month (Change at day value start) member changed is = on_register_terms at (with_reading month day value start) member changed is
+recorded_terms month (Correction at kwh) member changed is = on_register_terms at (with_correction kwh) member changed is
+recorded_terms month (Payment place drams) member changed is = on_account_terms (with_payment drams) member changed is
+
+after_call : (share : Share) (prices : ℕ → Prices) (posts : List AcceptedCall) (old : Group) (event : Event) (new : Group) → Tells posts old → Happens share prices old event new → Tells (accepted_call event ++ posts) new
+after_call share prices posts old (Opening number start holder records (Ok done)) new told happens =
+    let (fresh, is, opens) = and_then_ok (opening_phase old.phase) (λ (d : Unit {0}). opening_group number start holder records) new happens in
+    let (goes, may, same) = made_ok (λ (d : Unit {0}). record blank { number = number; holder = holder; members = record { items = members_of records }; phase = Open start }) (opening_check start holder records) new opens in
+    record {
+      entries = ap (λ (g : Group). g.entries) (sym same);
+      members = ap (λ (g : Group). map terms g.members.items) (sym same) ∙ told_of_opened records;
+    }
+after_call share prices posts old (Opening number start holder records (Err refusal)) new told happens = subst (λ g. Tells posts g) (sym happens.1) told
+after_call share prices posts old (Entering entry (Ok done)) new told happens =
+    let (month, is, rest) = and_then_ok (open_month old.phase) (λ (m : ℕ). entry_result (place_of entry) (recorded_member m entry) old) new happens in
+    let (member, changed, found, stepped, same) = altered_found (place_of entry) (recorded_member month entry) old new rest in
+    record {
+      entries = ap (λ (g : Group). g.entries) (sym same) ∙ ap (λ n. n + 1) told.entries;
+      members = ap (λ (g : Group). map terms g.members.items) (sym same) ∙ (told_of_found terms old.members.items (place_of entry) member changed found (recorded_terms month entry member changed stepped) ∙ told.members);
+    }
+after_call share prices posts old (Entering entry (Err refusal)) new told happens = subst (λ g. Tells posts g) (sym happens.1) told
+after_call share prices posts old (Drawing places answer) new told happens = subst (λ g. Tells posts g) (sym happens.1) told
+after_call share prices posts old (Checking stamp current) new told happens = subst (λ g. Tells posts g) (sym happens.1) told
+after_call share prices posts old (Issuing stamp places (Ok bills)) new told happens =
+    let (month, is, writes, becomes) = issued_is share prices stamp places old new bills happens in
+    let f = λ (place : ℕ) (member : Member). billed_member (prices month) member (supplies_at share old place) in
+    record {
+      entries = ap (λ (g : Group). g.entries) (sym becomes);
+      members = ap (λ (g : Group). map terms g.members.items) (sym becomes) ∙ (told_by_place terms f (λ place member. billed_terms (prices month) member (supplies_at share old place)) 0 old.members.items ∙ told.members);
+    }
+after_call share prices posts old (Issuing stamp places (Err refusal)) new told happens = subst (λ g. Tells posts g) (sym happens.1) told
+after_call share prices posts old (Withdrawing stamp) new told happens = subst (λ g. Tells posts g) (sym happens) told
+after_call share prices posts old (Closing (Ok figures)) new told happens =
+    let (december, is, same) = made_ok (λ (d : ℕ). (year_figures (prices d) old, after_year prices d old)) (open_year old.phase) (figures, new) happens in
+    let becomes : after_year prices december old ≡ new = ap (λ (p : YearEnd × Group). p.1) same in
+    let holder : Member = record (holder_of old) { account = credited_account (prices december) old } in
+    record {
+      entries = ap (λ (g : Group). g.entries) (sym becomes) ∙ told.entries;
+      members = ap (λ (g : Group). map terms g.members.items) (sym becomes) ∙ (told_after_set terms old.members.items old.holder holder nobody refl ∙ told.members);
+    }
+after_call share prices posts old (Closing (Err refusal)) new told happens = subst (λ g. Tells posts g) (sym happens.1) told
+
+history_tells : (share : Share) (prices : ℕ → Prices) (history : List Event) (group : Group) → Leads share prices history group → Tells (accepted_calls history) group
+history_tells share prices [] group is = subst (λ g. Tells [] g) (sym is) (record { entries = refl; members = refl })
+history_tells share prices (event ∷ history) group (before, leads, happens) = after_call share prices (accepted_calls history) before event group (history_tells share prices history before leads) happens
+
+pub entries_are_counted : EntriesAreCounted
+entries_are_counted share prices history group leads = (history_tells share prices history group leads).entries
+
+pub terms_stay : TermsStay
+terms_stay share prices history group leads = (history_tells share prices history group leads).members
