@@ -76,9 +76,9 @@ month_shares share keeps prices month old zone =
     }
 
 pub issues_share : IssuesShare
-issues_share share prices stamp places old new is_billed keeps is zone =
-    let (month, opens, writes, becomes) = issued_is share prices stamp places old new is_billed is in
-    subst (λ g. SharesZone share old g is_billed zone) becomes (subst (λ l. SharesZone share old (after_month share prices month old) l zone) writes (month_shares share keeps prices month old zone))
+issues_share share prices stamp places old new bills keeps is zone =
+    let (month, opens, writes, becomes) = issued_is share prices stamp places old new bills is in
+    subst (λ g. SharesZone share old g bills zone) becomes (subst (λ l. SharesZone share old (after_month share prices month old) l zone) writes (month_shares share keeps prices month old zone))
 
 pub nets_split : NetsSplit
 nets_split (pos n) = record { net_is = net_is (pos n); one_alone = inr refl }
@@ -113,12 +113,12 @@ opened_of places group month draws =
     opened_in group.phase m opens ∙ ap Open same
 
 pub issues_write_drawings : IssuesWriteDrawings
-issues_write_drawings share prices stamp places old new is_billed is =
-    let (month, draws, rest) = and_then_ok (drawing_month places old) (λ (m : ℕ). if is_current old stamp then Ok (bills_of share (prices m) old, after_month share prices m old) else Err refused.Draft) (is_billed, new) is in
+issues_write_drawings share prices stamp places old new bills is =
+    let (month, draws, rest) = and_then_ok (drawing_month places old) (λ (m : ℕ). if is_current old stamp then Ok (bills_of share (prices m) old, after_month share prices m old) else Err refused.Draft) (bills, new) is in
     let answer : List Bill × Group = (bills_of share (prices month) old, after_month share prices month old) in
-    let (current, same) = accepted (is_current old stamp) answer (is_billed, new) refused.Draft rest in
+    let (current, same) = accepted (is_current old stamp) answer (bills, new) refused.Draft rest in
     let stamps = current_is_stamped old.phase month old stamp (opened_of places old month draws) current in
-    let bills : bills_of share (prices month) old ≡ is_billed = ap (λ (p : List Bill × Group). p.0) same in
-    subst (λ l. drawing_result share prices places old ≡ Ok (stamp, l)) bills
+    let written_are : bills_of share (prices month) old ≡ bills = ap (λ (p : List Bill × Group). p.0) same in
+    subst (λ l. drawing_result share prices places old ≡ Ok (stamp, l)) written_are
     (subst (λ s. drawing_result share prices places old ≡ Ok (s, bills_of share (prices month) old)) stamps
     (ap (result_map (λ (m : ℕ). (stamp_of m old, bills_of share (prices m) old))) draws))

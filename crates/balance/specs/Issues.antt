@@ -22,25 +22,25 @@ zone_pool zone group = in_zone group.carried zone + sum (map surplus (member_net
 
 -- what the bills cover in a zone, in order of place
 abbrev pub covered_of : Zone → List Bill → List ℕ
-covered_of zone is_billed = map (λ of_bill. in_zone of_bill.covered zone) is_billed
+covered_of zone bills = map (λ bill. in_zone bill.covered zone) bills
 
 -- what each bill has in a zone in all, billed and covered
 abbrev pub supplied_of : Zone → List Bill → List ℕ
-supplied_of zone is_billed = map (λ of_bill. in_zone of_bill.billed zone + in_zone of_bill.covered zone) is_billed
+supplied_of zone bills = map (λ bill. in_zone bill.billed zone + in_zone bill.covered zone) bills
 
 -- the bills cover the rule's shares of a zone's pool among the needs, each has its member's whole need, and the rest of the pool is carried on
-pub record SharesZone (share : Share) (old new : Group) (is_billed : List Bill) (zone : Zone) : Type 0 where
-  pub covered_are : covered_of zone is_billed ≡ share (zone_pool zone old) (member_needs zone old)
-  pub needs_are : supplied_of zone is_billed ≡ member_needs zone old
-  pub pool_is : in_zone new.carried zone + sum (covered_of zone is_billed) ≡ zone_pool zone old
+pub record SharesZone (share : Share) (old new : Group) (bills : List Bill) (zone : Zone) : Type 0 where
+  pub covered_are : covered_of zone bills ≡ share (zone_pool zone old) (member_needs zone old)
+  pub needs_are : supplied_of zone bills ≡ member_needs zone old
+  pub pool_is : in_zone new.carried zone + sum (covered_of zone bills) ≡ zone_pool zone old
 
 -- so every accepted issue shares each zone, by any rule that keeps the law
 abbrev pub IssuesShare : Type 0
 IssuesShare =
     (share : Share) (prices : ℕ → Prices) (stamp : Stamp) (places : ℕ)
-    (old new : Group) (is_billed : List Bill)
-    → KeepsSharingLaw share → issue_result share prices stamp places old ≡ Ok (is_billed, new)
-    → (zone : Zone) → SharesZone share old new is_billed zone
+    (old new : Group) (bills : List Bill)
+    → KeepsSharingLaw share → issue_result share prices stamp places old ≡ Ok (bills, new)
+    → (zone : Zone) → SharesZone share old new bills zone
 
 -- a net is its need less its surplus, one of which is nothing
 pub record SplitsNet (net : ℤ) : Type 0 where
@@ -55,6 +55,6 @@ NetsSplit = (net : ℤ) → SplitsNet net
 abbrev pub IssuesWriteDrawings : Type 0
 IssuesWriteDrawings =
     (share : Share) (prices : ℕ → Prices) (stamp : Stamp) (places : ℕ)
-    (old new : Group) (is_billed : List Bill)
-    → issue_result share prices stamp places old ≡ Ok (is_billed, new)
-    → drawing_result share prices places old ≡ Ok (stamp, is_billed)
+    (old new : Group) (bills : List Bill)
+    → issue_result share prices stamp places old ≡ Ok (bills, new)
+    → drawing_result share prices places old ≡ Ok (stamp, bills)

@@ -13,7 +13,7 @@ pub fn every_run_balances()
     ensures { EveryRunBalances }
 {}
 
-/// One history with its figures balances, and with one kWh more on one line it does not.
+/// One history with its figures balances, and with one kWh more on one bill it does not.
 pub fn sample_tells()
     ensures { SampleTells }
 {}
@@ -23,7 +23,7 @@ pub fn history_leads_to_one_group()
     ensures { LeadsToOneGroup }
 {}
 
-/// After an issue the line at each place has the debt of the member there, and as drams that less the debt before; so it is with what the closing of a year answers and the holder.
+/// After an issue the bill at each place has the debt of the member there, and as drams that less the debt before; so it is with what the closing of a year answers and the holder.
 pub fn debts_are_told()
     ensures by_lines { IssuesTellDebts }
     ensures by_year_ends { YearEndsTellDebts }
@@ -41,7 +41,7 @@ pub fn issues_share_by_the_rule()
     ensures by_nets { NetsSplit }
 {}
 
-/// An accepted issue writes the lines of a drawing that is made now, which has the three numbers of the draft that is issued.
+/// An accepted issue writes the bills of a drawing that is made now, which has the three numbers of the draft that is issued.
 pub fn issues_write_what_is_drawn()
     ensures { IssuesWriteDrawings }
 {}

@@ -17,7 +17,7 @@ use Rattle.ledger.specs.declared.zone.Flow.TheVariants.{Consumed}
 use Rattle.ledger.specs.declared.zone.Zone.TheVariants.{Day}
 use Rattle.worked_cases.proofs.Months.{issue_read, left, reading}
 use Rattle.worked_cases.proofs.Running.{Lines, body_alone, line_done}
-use Rattle.worked_cases.specs.Runs.{ScarceSettled, scarce, scarce_bills}
+use Rattle.worked_cases.specs.Runs.{SettlesScarceMonth, scarce, scarce_bills}
 use Rattle.settlement.specs.Laws.{HasOneOutcome}
 use Rattle.settlement.specs.Runs.{RunResult, after_text, ended_run}
 use Rattle.settlement.specs.Steps.{after_line}
@@ -99,7 +99,7 @@ first_run = line_done left 2 (codes "READ,0,DAY,USE,3,-,2023-12-31\n") [] from_s
 parted : text_lines (concat from_first) ≡ from_first
 parted = refl
 
-pub scarce_settled : HasOneOutcome → ScarceSettled
+pub scarce_settled : HasOneOutcome → SettlesScarceMonth
 scarce_settled one =
     body_alone one 65536 scarce (concat from_first) scarce_bills [] at_issue (lit≤ tt) (lit≤ tt)
     (subst (λ lines. Lines left 2 lines scarce at_issue) (sym parted) first_run)

@@ -122,7 +122,7 @@ abbrev with_price : ℕ → PriceTable
 with_price price = record fifteen { household = record (five_from 1) { distribution = price } }
 
 -- each service and class has the price that is stored for it, and of a price over 100,000 only so much is charged
-pub record Charged : Type 0 where
+pub record ChargesByClass : Type 0 where
   pub household : charged_to Household ≡ 1 ∷ 2 ∷ 3 ∷ 4 ∷ 5 ∷ []
   pub other : charged_to Other ≡ 6 ∷ 7 ∷ 8 ∷ 9 ∷ 10 ∷ []
   pub vulnerable : charged_to Vulnerable ≡ 11 ∷ 12 ∷ 13 ∷ 14 ∷ 15 ∷ []

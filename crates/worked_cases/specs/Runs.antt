@@ -100,8 +100,8 @@ scarce_bills = concat
     ∷ codes "BILL,2023-12,1,0,0,3,0,30,30\n" ∷ [])
 
 -- a month whose pool does not reach for all needs
-abbrev pub ScarceSettled : Type 0
-ScarceSettled = RunsTo 65536 scarce scarce_journal scarce_bills []
+abbrev pub SettlesScarceMonth : Type 0
+SettlesScarceMonth = RunsTo 65536 scarce scarce_journal scarce_bills []
 
 -- a journal of the line of names and this
 abbrev pub journal_of : List ℕ → List ℕ

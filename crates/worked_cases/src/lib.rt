@@ -1,10 +1,10 @@
 //! The worked cases of the project, proved together.
 #![tactic(auto)]
 
-ghost use Rattle.worked_cases.specs.Cases.{Charged, CreditsAsWorked, DatesAsWorked, ReadsAgain, ReadsLeapDayOnly, SharesAsWorked, TalliesAsWorked};
+ghost use Rattle.worked_cases.specs.Cases.{ChargesByClass, CreditsAsWorked, DatesAsWorked, ReadsAgain, ReadsLeapDayOnly, SharesAsWorked, TalliesAsWorked};
 ghost use Rattle.worked_cases.specs.Numbers.{NumbersRefusals, AsksForRoom};
 ghost use Rattle.worked_cases.specs.Orders.{AmountsAtEdges, ChangeRefusesInOrder, ClosingRefusesInOrder, CorrectionRefusesInOrder, DrawingRefusesInOrder, IssueRefusesInOrder, LengthAtEdge, LinesRefusesInOrder, OpeningAtEdges, OpeningRefusesInOrder, PaymentRefusesInOrder, PhasesInOrder, ReadingRefusesInOrder, SharingRefusesInOrder, ValuesAtEdges};
-ghost use Rattle.worked_cases.specs.Runs.{TellsFault, SettlesMonth, ScarceSettled, SettlesYear};
+ghost use Rattle.worked_cases.specs.Runs.{TellsFault, SettlesMonth, SettlesScarceMonth, SettlesYear};
 
 use settlement::one_outcome;
 
@@ -16,9 +16,9 @@ pub fn cases_stand()
     ensures read_again { ReadsAgain }
     ensures shared { SharesAsWorked }
     ensures tallied { TalliesAsWorked }
-    ensures charged { Charged }
+    ensures charged { ChargesByClass }
     ensures month_settled { SettlesMonth }
-    ensures scarce_settled { ScarceSettled }
+    ensures scarce_settled { SettlesScarceMonth }
     ensures year_settled { SettlesYear }
     ensures fault_told { TellsFault }
     ensures numbered { NumbersRefusals }
@@ -60,7 +60,7 @@ fn registers_stand()
 // Holds the proof of the cases on whole runs.
 fn runs_stand()
     ensures month_settled { SettlesMonth }
-    ensures scarce_settled { ScarceSettled }
+    ensures scarce_settled { SettlesScarceMonth }
     ensures year_settled { SettlesYear }
     ensures fault_told { TellsFault }
     ensures lines_in_order { LinesRefusesInOrder }
