@@ -17,7 +17,8 @@ use ledger::{Entry, MemberRegister};
 pub fn read_line(text: &[u8], line: usize) -> Result<Line, LineFault>
     ensures read { ReadsLine text.now line result }
     ensures exactly { IsOk result ↔ HasForm text.now }
-    ensures only { (other : Result Line LineFault) → ReadsLine text.now line other → other ≡ result }
+    ensures only { (other : Result Line LineFault)
+        → ReadsLine text.now line other → other ≡ result }
 {
     line_of(text, line)
 }

@@ -52,10 +52,12 @@ impl<R> Parts<R> {
 impl<R: SharingRule> SharingRule for Parts<R> {
     ghost use Rattle.sharing.specs.Parts.{parts_of, rule_below};
 
-    ghost sharing = { λ layer. with_parts (R.SharingRule.sharing (rule_below layer)) (parts_of layer) };
+    ghost sharing = { λ layer.
+        with_parts (R.SharingRule.sharing (rule_below layer)) (parts_of layer) };
 
     ghost keeps_law = { λ layer.
-        with_parts_keeps_law _ (R.SharingRule.keeps_law (rule_below layer)) (parts_of layer) layer.whole };
+        with_parts_keeps_law _ (R.SharingRule.keeps_law (rule_below layer))
+        (parts_of layer) layer.whole };
 
     fn share(&self, pool: u64, needs: &[u64], shares: &mut [u64]) -> Result<(), ShareRefusal> {
         admit(pool, needs, shares.len())?;

@@ -12,7 +12,7 @@ pub const MOST_POOL: u64 = 1_000_000_000;
 /// The largest need that is served, in kWh.
 pub const MOST_NEED: u64 = 2_000_000;
 
-/// A rule that shares a pool of kWh among needs, by one function that keeps the law `Fair`.
+/// A rule that shares a pool of kWh among needs, by one function that keeps the law `SharingLaw`.
 pub trait SharingRule {
     // The rule as the function from a pool and a list of needs that it is, which is why its call takes the two apart.
     ghost sharing: { Self → ℕ → List ℕ → List ℕ };
@@ -20,7 +20,8 @@ pub trait SharingRule {
     /// Writes the shares of the needs into `shares`, or refuses and leaves it as it was.
     fn share(&self, pool: u64, needs: &[u64], shares: &mut [u64]) -> Result<(), ShareRefusal>
         ensures answers { result ≡ answer pool needs.now (length shares.old) }
-        ensures writes { shares.new ≡ shares_after result (sharing self.now pool needs.now) shares.old };
+        ensures writes { shares.new
+            ≡ shares_after result (sharing self.now pool needs.now) shares.old };
 
     ghost keeps_law: { (rule : Self) (pool : ℕ) (needs : List ℕ)
         → SharingLaw pool needs (sharing rule pool needs) };
