@@ -2,6 +2,7 @@
 use Rattle.std.proofs.Common.{◌≡◌, ℕ, zero, suc, ◌+◌, List, [], ◌∷◌, ◌++◌, map, set, get_or, slice_get, Some, Ok, Err, Result, refl, sym, ap, ap₂, ◌∙◌, subst}
 use Rattle.billing.specs.declared.account.Account.{Account}
 use Rattle.billing.specs.declared.supply.Supply.{Supply}
+use Rattle.ledger.specs.declared.bill.Bill.{Bill}
 use Rattle.ledger.specs.declared.bill.YearEnd.{YearEnd}
 use Rattle.ledger.specs.declared.entry.Entry.{Entry}
 use Rattle.ledger.specs.declared.entry.Entry.TheVariants.{Reading, Change, Correction, Payment}
@@ -9,8 +10,9 @@ use Rattle.ledger.specs.declared.entry.MemberRegister.{MemberRegister}
 use Rattle.ledger.specs.declared.zone.ByZone.{ByZone}
 use Rattle.group.proofs.Stepping.{and_then_ok, made_ok}
 use Rattle.group.specs.Books.{opening_phase}
+use Rattle.group.specs.Drafts.{after_month}
 use Rattle.group.specs.Entries.{open_month, place_of, recorded_member}
-use Rattle.group.specs.Groups.{entry_result, blank, members_of, opening_group, opening_check}
+use Rattle.group.specs.Groups.{entry_result, blank, entry_group, members_of, opening_group, opening_check}
 use Rattle.group.specs.Members.{nobody, on_account, on_register, opened_member, register_at, with_register}
 use Rattle.group.specs.Months.{Prices, Share, billed_member, by_place, supplies_at}
 use Rattle.group.specs.Payments.{with_payment}
@@ -25,13 +27,8 @@ use Rattle.group.specs.declared.register.Register.{Register}
 use Rattle.balance.proofs.Entries.{altered_found}
 use Rattle.balance.proofs.Theorem.{issued_is}
 use Rattle.balance.specs.Histories.{Event, Opening, Entering, Drawing, Checking, Issuing, Withdrawing, Closing, Happens, Leads}
-use Rattle.balance.specs.Postings.{AcceptedCall, accepted_call, accepted_calls}
+use Rattle.balance.specs.Postings.{AcceptedCall, Entered, Issued, Opened, YearPaid, accepted_call, accepted_calls}
 use Rattle.balance.specs.Told.{EntriesAreCounted, TermsStay, entries_since, opening_terms, records_in, terms}
-
--- the group has the entries that were posted since the last issue, and the members that it opened with
-record Tells (posts : List AcceptedCall) (group : Group) : Type 0 where
-  entries : group.entries ≡ entries_since posts
-  members : map terms group.members.items ≡ map opening_terms (records_in posts)
 
 -- one element is replaced by one of which the same is told
 told_after_set : {A B : Type 0} (f : A → B) (xs : List A) (i : ℕ) (y d : A) → f y ≡ f (get_or xs i d) → map f (set xs i y) ≡ map f xs
@@ -73,50 +70,61 @@ recorded_terms month (Change at day value start) member changed is = on_register
 recorded_terms month (Correction at kwh) member changed is = on_register_terms at (with_correction kwh) member changed is
 recorded_terms month (Payment place drams) member changed is = on_account_terms (with_payment drams) member changed is
 
-after_call : (share : Share) (prices : ℕ → Prices) (posts : List AcceptedCall) (old : Group) (event : Event) (new : Group) → Tells posts old → Happens share prices old event new → Tells (accepted_call event ++ posts) new
-after_call share prices posts old (Opening number start holder records (Ok done)) new told happens =
+-- what each kind of posting keeps of what a history posts and the group that it leads to
+record Steps (share : Share) (prices : ℕ → Prices) (P : List AcceptedCall → Group → Type 0) : Type 0 where
+  at_first : P [] blank
+  opens : (posts : List AcceptedCall) (number start holder : ℕ) (records : List OpeningRecord) → P (Opened start holder records ∷ posts) (record blank { number = number; holder = holder; members = record { items = members_of records }; phase = Open start })
+  enters : (posts : List AcceptedCall) (old : Group) (month : ℕ) (entry : Entry) (member changed : Member) → P posts old → slice_get old.members.items (place_of entry) ≡ Some member → recorded_member month entry member ≡ Ok changed → P (Entered entry ∷ posts) (entry_group (place_of entry) changed old)
+  issues : (posts : List AcceptedCall) (old : Group) (month : ℕ) (bills : List Bill) → P posts old → P (Issued bills ∷ posts) (after_month share prices month old)
+  closes : (posts : List AcceptedCall) (old : Group) (december : ℕ) (figures : YearEnd) → P posts old → P (YearPaid figures ∷ posts) (after_year prices december old)
+
+after_call : (share : Share) (prices : ℕ → Prices) (P : List AcceptedCall → Group → Type 0) → Steps share prices P → (posts : List AcceptedCall) (old : Group) (event : Event) (new : Group) → P posts old → Happens share prices old event new → P (accepted_call event ++ posts) new
+after_call share prices P steps posts old (Opening number start holder records (Ok done)) new was happens =
     let (fresh, is, opens) = and_then_ok (opening_phase old.phase) (λ (d : Unit {0}). opening_group number start holder records) new happens in
     let (goes, may, same) = made_ok (λ (d : Unit {0}). record blank { number = number; holder = holder; members = record { items = members_of records }; phase = Open start }) (opening_check start holder records) new opens in
-    record {
-      entries = ap (λ (g : Group). g.entries) (sym same);
-      members = ap (λ (g : Group). map terms g.members.items) (sym same) ∙ told_of_opened records;
-    }
-after_call share prices posts old (Opening number start holder records (Err refusal)) new told happens = subst (λ g. Tells posts g) (sym happens.1) told
-after_call share prices posts old (Entering entry (Ok done)) new told happens =
+    subst (λ g. P (Opened start holder records ∷ posts) g) same (steps.opens posts number start holder records)
+after_call share prices P steps posts old (Opening number start holder records (Err refusal)) new was happens = subst (λ g. P posts g) (sym happens.1) was
+after_call share prices P steps posts old (Entering entry (Ok done)) new was happens =
     let (month, is, rest) = and_then_ok (open_month old.phase) (λ (m : ℕ). entry_result (place_of entry) (recorded_member m entry) old) new happens in
     let (member, changed, found, stepped, same) = altered_found (place_of entry) (recorded_member month entry) old new rest in
-    record {
-      entries = ap (λ (g : Group). g.entries) (sym same) ∙ ap (λ n. n + 1) told.entries;
-      members = ap (λ (g : Group). map terms g.members.items) (sym same) ∙ (told_of_found terms old.members.items (place_of entry) member changed found (recorded_terms month entry member changed stepped) ∙ told.members);
-    }
-after_call share prices posts old (Entering entry (Err refusal)) new told happens = subst (λ g. Tells posts g) (sym happens.1) told
-after_call share prices posts old (Drawing places answer) new told happens = subst (λ g. Tells posts g) (sym happens.1) told
-after_call share prices posts old (Checking stamp current) new told happens = subst (λ g. Tells posts g) (sym happens.1) told
-after_call share prices posts old (Issuing stamp places (Ok bills)) new told happens =
+    subst (λ g. P (Entered entry ∷ posts) g) same (steps.enters posts old month entry member changed was found stepped)
+after_call share prices P steps posts old (Entering entry (Err refusal)) new was happens = subst (λ g. P posts g) (sym happens.1) was
+after_call share prices P steps posts old (Drawing places answer) new was happens = subst (λ g. P posts g) (sym happens.1) was
+after_call share prices P steps posts old (Checking stamp current) new was happens = subst (λ g. P posts g) (sym happens.1) was
+after_call share prices P steps posts old (Issuing stamp places (Ok bills)) new was happens =
     let (month, is, writes, becomes) = issued_is share prices stamp places old new bills happens in
-    let f = λ (place : ℕ) (member : Member). billed_member (prices month) member (supplies_at share old place) in
-    record {
-      entries = ap (λ (g : Group). g.entries) (sym becomes);
-      members = ap (λ (g : Group). map terms g.members.items) (sym becomes) ∙ (told_by_place terms f (λ place member. billed_terms (prices month) member (supplies_at share old place)) 0 old.members.items ∙ told.members);
-    }
-after_call share prices posts old (Issuing stamp places (Err refusal)) new told happens = subst (λ g. Tells posts g) (sym happens.1) told
-after_call share prices posts old (Withdrawing stamp) new told happens = subst (λ g. Tells posts g) (sym happens) told
-after_call share prices posts old (Closing (Ok figures)) new told happens =
+    subst (λ g. P (Issued bills ∷ posts) g) becomes (steps.issues posts old month bills was)
+after_call share prices P steps posts old (Issuing stamp places (Err refusal)) new was happens = subst (λ g. P posts g) (sym happens.1) was
+after_call share prices P steps posts old (Withdrawing stamp) new was happens = subst (λ g. P posts g) (sym happens) was
+after_call share prices P steps posts old (Closing (Ok figures)) new was happens =
     let (december, is, same) = made_ok (λ (d : ℕ). (year_figures (prices d) old, after_year prices d old)) (open_year old.phase) (figures, new) happens in
     let becomes : after_year prices december old ≡ new = ap (λ (p : YearEnd × Group). p.1) same in
-    let holder : Member = record (holder_of old) { account = credited_account (prices december) old } in
-    record {
-      entries = ap (λ (g : Group). g.entries) (sym becomes) ∙ told.entries;
-      members = ap (λ (g : Group). map terms g.members.items) (sym becomes) ∙ (told_after_set terms old.members.items old.holder holder nobody refl ∙ told.members);
-    }
-after_call share prices posts old (Closing (Err refusal)) new told happens = subst (λ g. Tells posts g) (sym happens.1) told
+    subst (λ g. P (YearPaid figures ∷ posts) g) becomes (steps.closes posts old december figures was)
+after_call share prices P steps posts old (Closing (Err refusal)) new was happens = subst (λ g. P posts g) (sym happens.1) was
 
-history_tells : (share : Share) (prices : ℕ → Prices) (history : List Event) (group : Group) → Leads share prices history group → Tells (accepted_calls history) group
-history_tells share prices [] group is = subst (λ g. Tells [] g) (sym is) (record { entries = refl; members = refl })
-history_tells share prices (event ∷ history) group (before, leads, happens) = after_call share prices (accepted_calls history) before event group (history_tells share prices history before leads) happens
+-- what each posting keeps, every history does
+over_history : (share : Share) (prices : ℕ → Prices) (P : List AcceptedCall → Group → Type 0) → Steps share prices P → (history : List Event) (group : Group) → Leads share prices history group → P (accepted_calls history) group
+over_history share prices P steps [] group is = subst (λ g. P [] g) (sym is) steps.at_first
+over_history share prices P steps (event ∷ history) group (before, leads, happens) = after_call share prices P steps (accepted_calls history) before event group (over_history share prices P steps history before leads) happens
 
 pub entries_are_counted : EntriesAreCounted
-entries_are_counted share prices history group leads = (history_tells share prices history group leads).entries
+entries_are_counted share prices history group leads = over_history share prices (λ posts g. g.entries ≡ entries_since posts) (record {
+  at_first = refl;
+  opens = λ posts number start holder records. refl;
+  enters = λ posts old month entry member changed was found stepped. ap (λ n. n + 1) was;
+  issues = λ posts old month bills was. refl;
+  closes = λ posts old december figures was. was;
+}) history group leads
 
 pub terms_stay : TermsStay
-terms_stay share prices history group leads = (history_tells share prices history group leads).members
+terms_stay share prices history group leads = over_history share prices (λ posts g. map terms g.members.items ≡ map opening_terms (records_in posts)) (record {
+  at_first = refl;
+  opens = λ posts number start holder records. told_of_opened records;
+  enters = λ posts old month entry member changed was found stepped. told_of_found terms old.members.items (place_of entry) member changed found (recorded_terms month entry member changed stepped) ∙ was;
+  issues = λ posts old month bills was.
+      let f = λ (place : ℕ) (member : Member). billed_member (prices month) member (supplies_at share old place) in
+      told_by_place terms f (λ place member. billed_terms (prices month) member (supplies_at share old place)) 0 old.members.items ∙ was;
+  closes = λ posts old december figures was.
+      let holder : Member = record (holder_of old) { account = credited_account (prices december) old } in
+      told_after_set terms old.members.items old.holder holder nobody refl ∙ was;
+}) history group leads
