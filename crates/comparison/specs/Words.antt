@@ -1,5 +1,6 @@
 -- How it is told in words why there is no table.
-use Rattle.std.specs.Prelude.{ℕ, List, ◌++◌, Some, None, codes, decimal, Option}
+use Rattle.std.specs.Prelude.{ℕ, List, ◌++◌, codes}
+use Rattle.fields.specs.Places.{place_words}
 use Rattle.sharing.specs.Refusals.{meaning, parts_meaning, refusal_words}
 use Rattle.comparison.specs.declared.problem.Problem.{Problem}
 use Rattle.comparison.specs.declared.problem.Problem.TheVariants.{At, Memory, OfParts, OfRule}
@@ -14,11 +15,6 @@ wrong_words Number = codes "this is no number of up to ten digits without a need
 wrong_words Missing = codes "the line ends before its first need"
 wrong_words Surplus = codes "the line has more fields than it may"
 wrong_words Line = codes "the text goes on after its second line"
-
--- a line by its number, and its field where one is meant
-abbrev place_words : ℕ → Option ℕ → List ℕ → List ℕ
-place_words line (Some field) words = codes "line " ++ (decimal line ++ (codes ", field " ++ (decimal field ++ (codes ": " ++ words))))
-place_words line None words = codes "line " ++ (decimal line ++ (codes ": " ++ words))
 
 -- a fault: its place, and what is wrong there
 abbrev pub fault_words : Fault → List ℕ

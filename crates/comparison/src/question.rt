@@ -7,7 +7,7 @@ ghost use Rattle.comparison.specs.Words.{fault_words, wrong_words};
 ghost use Rattle.comparison.specs.declared.problem.Problem.TheVariants.{At};
 
 use crate::problem::Problem;
-use fields::{COMMA, line, number};
+use fields::{COMMA, Place, line, number};
 use sharing::PLACES;
 use std::alloc::Global;
 use std::error::Error;
@@ -63,12 +63,10 @@ impl fmt::Display for Fault {
     ghost output = { λ fault. Some (fault_words fault) };
 
     fn fmt<W: fmt::Write>(&self, f: &mut fmt::Formatter<W>) -> fmt::Result {
-        let line = self.line;
-        let words = self.wrong.words();
-        match self.field {
-            Some(field) => write!(f, "line {line}, field {field}: {words}"),
-            None => write!(f, "line {line}: {words}"),
-        }
+        let Fault { line, field, wrong } = *self;
+        let place = Place { line, field };
+        let words = wrong.words();
+        write!(f, "{place}: {words}")
     }
 }
 

@@ -1,5 +1,5 @@
 -- The commas part a text in one way only.
-use Rattle.std.proofs.Common.{◌≡◌, ℕ, suc, ◌<◌, true, List, [], ◌∷◌, ◌++◌, length, is_some, Some, None, Option, sym, refl, ap, ◌∙◌, subst, ap₂, arith, Bor}
+use Rattle.std.proofs.Common.{◌≡◌, ℕ, suc, true, List, [], ◌∷◌, ◌++◌, length, is_some, Some, None, Option, sym, refl, ap, ◌∙◌, subst, ap₂, arith, Bor}
 use Rattle.fields.proofs.Lacking.{cut_once, no_mark}
 use Rattle.fields.specs.Cuts.{Cuts, Lacks}
 use Rattle.fields.specs.Partings.{IsParted}
@@ -12,25 +12,30 @@ first_lacks : {bs text : List ℕ} {texts : List (List ℕ)} → IsParted (text 
 first_lacks {bs} {text} {texts} is = All-head (Lacks 44) text texts is.commaless
 
 -- the texts after the first are parted by the commas of what follows it
-rest_parted : {bs text rest : List ℕ} {texts : List (List ℕ)} → IsParted (text ∷ texts) bs → rest ≡ texts_row texts → IsParted texts rest
-rest_parted {bs} {text} {rest} {texts} is whole = record { commaless = All-tail (Lacks 44) text texts is.commaless; whole = whole }
+rest_parted : {bs text rest next : List ℕ} {texts : List (List ℕ)} → IsParted (text ∷ next ∷ texts) bs → rest ≡ texts_row (next ∷ texts) → IsParted (next ∷ texts) rest
+rest_parted {bs} {text} {rest} {next} {texts} is whole = record {
+  some = omega arith;
+  commaless = All-tail (Lacks 44) text (next ∷ texts) is.commaless;
+  whole = whole;
+}
 
 -- without a comma the bytes are one text
 pub one_text : {bs text : List ℕ} → Lacks 44 bs → text ≡ bs → IsParted (text ∷ []) bs
 one_text {bs} {text} lacks same = subst (λ t. IsParted (t ∷ []) bs) (sym same)
-    (record { commaless = All-cons (Lacks 44) bs [] lacks (All-nil (Lacks 44)); whole = refl })
+    (record { some = omega arith; commaless = All-cons (Lacks 44) bs [] lacks (All-nil (Lacks 44)); whole = refl })
 
 -- the first comma ends one text more
 pub one_more : {bs field rest text next : List ℕ} {texts : List (List ℕ)} → (bs ≡ field ++ (44 ∷ rest)) × Lacks 44 field → text ≡ field → IsParted (next ∷ texts) rest → IsParted (text ∷ next ∷ texts) bs
 one_more {bs} {field} {rest} {text} {next} {texts} cut same is = subst (λ t. IsParted (t ∷ next ∷ texts) bs) (sym same) (record {
+  some = omega arith;
   commaless = All-cons (Lacks 44) field (next ∷ texts) cut.1 is.commaless;
   whole = cut.0 ∙ ap (λ r. field ++ (44 ∷ r)) is.whole;
 })
 
--- the same of whatever texts there are, if there are any
-pub cut_more : {bs field rest : List ℕ} → (bs ≡ field ++ (44 ∷ rest)) × Lacks 44 field → (texts : List (List ℕ)) → 0 < length texts → IsParted texts rest → IsParted (field ∷ texts) bs
-cut_more {bs} {field} {rest} cut [] some is = absurd (omega arith)
-cut_more {bs} {field} {rest} cut (next ∷ texts) some is = one_more cut refl is
+-- the same of whatever texts there are
+pub cut_more : {bs field rest : List ℕ} → (bs ≡ field ++ (44 ∷ rest)) × Lacks 44 field → (texts : List (List ℕ)) → IsParted texts rest → IsParted (field ∷ texts) bs
+cut_more {bs} {field} {rest} cut [] is = absurd (omega (arith, is.some))
+cut_more {bs} {field} {rest} cut (next ∷ texts) is = one_more cut refl is
 
 -- no so many texts are parted by the commas of the bytes
 abbrev pub NotIn : ℕ → List ℕ → Type 0

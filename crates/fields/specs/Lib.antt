@@ -4,6 +4,7 @@ pub mod Cuts
 pub mod Digits
 pub mod Separators
 pub mod Partings
+pub mod Places
 pub mod Reads
 pub mod Rows
 pub mod Texts

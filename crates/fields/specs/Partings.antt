@@ -1,12 +1,13 @@
 -- How commas part a text.
 use Rattle.std.specs.Borrow.{Bor}
-use Rattle.std.specs.Prelude.{All, ◌≡◌, ℕ, ◌+◌, List, length, map, drop, Option, MatchOption}
+use Rattle.std.specs.Prelude.{All, ◌≡◌, ℕ, ◌+◌, ◌<◌, List, length, map, drop, Option, MatchOption}
 use Rattle.fields.specs.Bytes.{comma}
 use Rattle.fields.specs.Cuts.{Lacks}
 use Rattle.fields.specs.Rows.{texts_row}
 
--- the bytes are these texts, none of which has a comma, parted by commas
+-- the bytes are these texts, at least one and none with a comma, parted by commas
 pub record IsParted (texts : List (List ℕ)) (bs : List ℕ) : Type 0 where
+  pub some : 0 < length texts
   pub commaless : All (Lacks comma) texts
   pub whole : bs ≡ texts_row texts
 

@@ -117,8 +117,8 @@ only_fields : (bs first : List ℕ) (rest texts : List (List ℕ)) → AreFields
 only_fields bs first rest [] is too = absurd (omega (arith, too.seven))
 only_fields bs first rest (other ∷ others) is too =
     one_parting _ first other rest others
-    (record { commaless = is.commaless; whole = refl })
-    (record { commaless = too.commaless; whole = append_cancel_right _ _ _ (sym is.whole ∙ too.whole) })
+    (record { some = omega arith; commaless = is.commaless; whole = refl })
+    (record { some = omega arith; commaless = too.commaless; whole = append_cancel_right _ _ _ (sym is.whole ∙ too.whole) })
 
 no_wrong : (kind : Kind) (rest : List (List ℕ)) (number : ℕ) → AreAllRight (forms kind) rest → IsWrongAt (kind_word kind ∷ rest) number → ⊥
 no_wrong kind rest number right wrong =

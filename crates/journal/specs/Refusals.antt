@@ -1,5 +1,6 @@
 -- The refusals of the readers and the writers of lines: the number of each, and its words.
-use Rattle.std.specs.Prelude.{ℕ, List, ◌++◌, codes, decimal}
+use Rattle.std.specs.Prelude.{ℕ, List, None, Option, Some, codes}
+use Rattle.fields.specs.Places.{place_words}
 use Rattle.journal.specs.declared.refusal.LineFault.{LineFault}
 use Rattle.journal.specs.declared.refusal.ReadRefusal.{ReadRefusal}
 use Rattle.journal.specs.declared.refusal.ReadRefusal.TheVariants.{Fields, Form}
@@ -16,16 +17,15 @@ abbrev pub read_words : ReadRefusal → List ℕ
 read_words Fields = codes "this is no whole line of seven fields"
 read_words (Form field) = codes "this is not written as its place in the line asks"
 
--- words behind the number of their line, and behind the field where one is meant
-abbrev pub words_in_place : (line : ℕ) → ReadRefusal → (words : List ℕ) → List ℕ
-words_in_place line Fields words = codes "line " ++ (decimal line ++ (codes ": " ++ words))
-words_in_place line (Form field) words =
-    codes "line "
-    ++ (decimal line ++ (codes ", field " ++ (decimal field ++ (codes ": " ++ words))))
+-- the first field that has not its form, where that is why
+abbrev pub read_refusal_field : ReadRefusal → Option ℕ
+read_refusal_field Fields = None
+read_refusal_field (Form field) = Some field
 
 -- the fault of a line in words: where and why it is not read
 abbrev pub line_fault_words : LineFault → List ℕ
-line_fault_words fault = words_in_place fault.line fault.refusal (read_words fault.refusal)
+line_fault_words fault =
+    place_words fault.line (read_refusal_field fault.refusal) (read_words fault.refusal)
 
 -- the number of a refusal of a writer of a line
 abbrev pub write_refusal_number : WriteRefusal → ℕ

@@ -1,9 +1,9 @@
 //! Why a line is not read or not written.
 ghost use Rattle.std.specs.Prelude.{◌≡◌, Some};
-ghost use Rattle.journal.specs.Refusals.{line_fault_words, read_refusal_number, read_words, write_refusal_number, write_words};
+ghost use Rattle.journal.specs.Refusals.{line_fault_words, read_refusal_field, read_refusal_number, read_words, write_refusal_number, write_words};
 ghost use Rattle.journal.specs.declared.refusal.ReadRefusal.TheVariants.{Form};
 
-use fields::WrongField;
+use fields::{Place, WrongField};
 use std::error::Error;
 use std::fmt;
 
@@ -28,6 +28,16 @@ impl ReadRefusal {
         match self {
             ReadRefusal::Fields => 25,
             ReadRefusal::Form { .. } => 26,
+        }
+    }
+
+    /// The number of the first field that has not its form, where a field is meant.
+    pub fn field(self) -> Option<usize>
+        ensures { result ≡ read_refusal_field self }
+    {
+        match self {
+            ReadRefusal::Fields => None,
+            ReadRefusal::Form { field } => Some(field),
         }
     }
 }
@@ -62,10 +72,9 @@ impl fmt::Display for LineFault {
 
     fn fmt<W: fmt::Write>(&self, f: &mut fmt::Formatter<W>) -> fmt::Result {
         let LineFault { line, refusal } = *self;
-        match refusal {
-            ReadRefusal::Fields => write!(f, "line {line}: {refusal}"),
-            ReadRefusal::Form { field } => write!(f, "line {line}, field {field}: {refusal}"),
-        }
+        let field = refusal.field();
+        let place = Place { line, field };
+        write!(f, "{place}: {refusal}")
     }
 }
 

@@ -1,11 +1,11 @@
 -- Where and why a run stops: the number, the field and the layer of each refusal, and the line that tells a fault.
-use Rattle.std.specs.Prelude.{◌≡◌, ℕ, ◌<◌, ◌≤◌, List, [], ◌∷◌, ◌++◌, length, None, Option, Some, Ok, Err, codes, decimal, Result}
+use Rattle.std.specs.Prelude.{◌≡◌, ℕ, ◌<◌, ◌≤◌, List, [], ◌∷◌, ◌++◌, length, None, Option, Ok, Err, codes, decimal, Result}
 use Rattle.std.specs.Option.{unwrap_or}
 use Rattle.cells.specs.Cells.{overwritten_text}
+use Rattle.fields.specs.Places.{place_words}
 use Rattle.fields.specs.Rows.{line_of}
 use Rattle.group.specs.Refusals.{meaning, book_refusal_number as book_number}
-use Rattle.journal.specs.Refusals.{read_refusal_number, read_words}
-use Rattle.journal.specs.declared.refusal.ReadRefusal.TheVariants.{Fields, Form}
+use Rattle.journal.specs.Refusals.{read_refusal_field, read_refusal_number, read_words}
 use Rattle.settlement.specs.declared.fault.Layer.{Layer}
 use Rattle.settlement.specs.declared.fault.Layer.TheVariants as layers
 use Rattle.settlement.specs.declared.fault.RunFault.{RunFault}
@@ -31,8 +31,7 @@ words_of Room = codes "the output has under 4096 bytes left"
 -- the first field that has not its form, where that is why
 abbrev pub field_of : RunRefusal → Option ℕ
 field_of Journal = None
-field_of (Line Fields) = None
-field_of (Line (Form field)) = Some field
+field_of (Line refusal) = read_refusal_field refusal
 field_of (Book refusal) = None
 field_of Room = None
 
@@ -48,16 +47,10 @@ abbrev pub fault_at : (line : ℕ) → RunRefusal → RunFault
 fault_at line refusal =
     record { line = line; field = field_of refusal; layer = layer_of refusal; refusal = refusal }
 
--- words behind their line, and behind the field where one is meant
-abbrev words_in_place : (line : ℕ) → (field : Option ℕ) → (words : List ℕ) → List ℕ
-words_in_place line None words = codes "line " ++ (decimal line ++ (codes ": " ++ words))
-words_in_place line (Some field) words =
-    codes "line " ++ (decimal line ++ (codes ", field " ++ (decimal field ++ (codes ": " ++ words))))
-
 -- a fault in words, with the number of its refusal
 abbrev pub run_fault_words : RunFault → List ℕ
 run_fault_words fault =
-    words_in_place fault.line fault.field
+    place_words fault.line fault.field
     (words_of fault.refusal ++ (codes " (" ++ (decimal (run_refusal_number fault.refusal) ++ codes ")")))
 
 -- the word of a layer

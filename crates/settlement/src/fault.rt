@@ -3,6 +3,7 @@ ghost use Rattle.std.specs.Prelude.{◌≡◌, Some};
 ghost use Rattle.settlement.specs.Faults.{fault_at, run_fault_words, field_of, layer_of, run_refusal_number, words_of};
 ghost use Rattle.settlement.specs.declared.fault.RunRefusal.TheVariants as refused;
 
+use fields::Place;
 use group::BookRefusal;
 use journal::{LineFault, ReadRefusal};
 use std::error::Error;
@@ -51,7 +52,7 @@ impl RunRefusal {
         ensures { result ≡ field_of self }
     {
         match self {
-            RunRefusal::Line(ReadRefusal::Form { field }) => Some(field),
+            RunRefusal::Line(refusal) => refusal.field(),
             _ => None,
         }
     }
@@ -124,10 +125,8 @@ impl fmt::Display for RunFault {
             ..
         } = *self;
         let number = refusal.number();
-        match field {
-            None => write!(f, "line {line}: {refusal} ({number})"),
-            Some(field) => write!(f, "line {line}, field {field}: {refusal} ({number})"),
-        }
+        let place = Place { line, field };
+        write!(f, "{place}: {refusal} ({number})")
     }
 }
 

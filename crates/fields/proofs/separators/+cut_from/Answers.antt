@@ -1,7 +1,7 @@
-use Rattle.std.proofs.Common.{◌<◌, ◌+◌, ◌-◌, length, drop, refl, sym, subst, arith, rules}
+use Rattle.std.proofs.Common.{◌+◌, ◌-◌, length, drop, refl, sym, subst, arith, rules}
 use Rattle.fields.proofs.Parting.{comma_found, cut_more, one_alone, one_fewer}
 use Rattle.fields.specs.Partings.{IsParted, part_texts}
-use Rattle.std.proofs.lemmas.List.{drop-set, length-drop, length-map}
+use Rattle.std.proofs.lemmas.List.{drop-set}
 use Rattle.fields.proofs.separators.+cut_from.Goals as goal
 
 pub returns-then-is_some : goal.returns-then-is_some
@@ -30,10 +30,9 @@ returns t c =
     let new = c.cut_from.new.fields in
     let at = c.args.at in
     let after = drop (at + 1) new in
-    let done = c.in_ok-cut_from.ensures in
-    let some : 0 < length (part_texts after) = omega (arith, length-map after (λ part. part.now), length-drop (at + 1) new) in (
+    let done = c.in_ok-cut_from.ensures in (
       search rules,
       subst (λ parts. IsParted (part_texts parts) c.args.text.now)
           (sym (drop-set new at c.in_ok-field.field (omega arith)))
-          (cut_more c.in_ok-field.ensures (part_texts after) some done.1),
+          (cut_more c.in_ok-field.ensures (part_texts after) done.1),
     )
