@@ -1,23 +1,24 @@
 -- A call answers a refusal where its test holds, and an accepted entry is one of which none does.
-use Rattle.std.proofs.Common.{◌≡◌, ℕ, ◌-◌, Bool, true, false, not, ◌||◌, if◌then◌else◌, List, pos, ℤ, ◌+ℤ◌, ◌-ℤ◌, Option, Some, None, is_none, slice_get, Ok, Err, Result, ap, refl, subst, sym, ◌∙◌, arith}
+use Rattle.std.proofs.Common.{◌≡◌, ℕ, ◌-◌, Bool, true, false, not, ◌||◌, if◌then◌else◌, List, pos, ℤ, ◌+ℤ◌, ◌-ℤ◌, Option, Some, None, is_none, slice_get, Ok, Err, Result, ap, refl, subst, ◌∙◌, arith}
 use Rattle.std.proofs.lemmas.Bool.Decides.{nat_tests}
 use Rattle.std.specs.Option.{ok_or, option_map_or}
 use Rattle.billing.specs.declared.account.Account.{Account}
 use Rattle.ledger.specs.declared.bill.Bill.{Bill}
+use Rattle.ledger.specs.declared.bill.YearEnd.{YearEnd as YearFigures}
 use Rattle.ledger.specs.declared.entry.Entry.{Entry}
 use Rattle.ledger.specs.declared.entry.Entry.TheVariants.{Reading, Change, Correction, Payment}
 use Rattle.group.proofs.Stepping.{and_then_ok, made_ok, ok_or_ok}
-use Rattle.group.specs.Books.{opening_phase, was_opened}
-use Rattle.group.specs.Drafts.{Stamp, after_month, drawing_month, draft_is_out_of_date, is_current, slice_is_too_short, stamp_of}
+use Rattle.group.specs.Books.{after_opening, opening_phase, was_opened}
+use Rattle.group.specs.Drafts.{Stamp, after_month, drawing_month, drawing_result, draft_is_out_of_date, is_current, issue_result, slice_is_too_short, stamp_of}
 use Rattle.group.specs.Entries.{after_entry, amount_is_outside, no_month_is_open, open_month, place_of, recorded_member}
-use Rattle.group.specs.Groups.{blank, count_is_outside, entry_group, entry_result, holder_produces_nothing, is_over_capacity, member_at, members_of, month_is_full, opening_check, opening_group, place_has_no_record, room_for_entry, some_register_over, start_is_too_late}
+use Rattle.group.specs.Groups.{blank, count_is_outside, entry_group, entry_result, holder_produces_nothing, is_over_capacity, member_at, members_of, month_is_full, opening_check, opening_group, room_for_entry, some_register_over, start_is_too_late}
 use Rattle.group.specs.Members.{register_at, with_register}
 use Rattle.group.specs.Months.{Prices, Share, bills_of}
 use Rattle.group.specs.Payments.{debt_would_be_too_low, payment_is_outside, with_payment}
 use Rattle.group.specs.Registers.{day_is_outside, is_beyond, is_over, quantity, tally_with, value_is_below, value_is_too_large, with_correction, with_reading, with_value}
 use Rattle.group.specs.Results.{and_then, result_map}
-use Rattle.group.specs.Standing.{ClosingsAreRefusedByTests, DrawingsAreRefusedByTests, EntriesAreAcceptedByTests, EntriesAreRefusedByTests, IssuesAreRefusedByTests, OpeningsAreRefusedByTests, below_stands, day_stands, debt_stands, holds_of_member, holds_of_month, stands_for_closing, stands_for_drawing, stands_for_entry, stands_for_issue, stands_for_opening, tally_stands}
-use Rattle.group.specs.Years.{after_year, no_year_has_ended, open_year, year_figures}
+use Rattle.group.specs.Standing.{ClosingsStandByTests, DrawingsStandByTests, EntriesStandByTests, IssuesStandByTests, OpeningsStandByTests, below_stands, day_stands, debt_stands, holds_of_member, holds_of_month, stands_for_closing, stands_for_drawing, stands_for_entry, stands_for_issue, stands_for_opening, tally_stands}
+use Rattle.group.specs.Years.{after_year, closing_result, no_year_has_ended, open_year, year_figures}
 use Rattle.group.specs.declared.group.Group.{Group}
 use Rattle.group.specs.declared.group.Phase.{Phase}
 use Rattle.group.specs.declared.group.Phase.TheVariants.{Blank, Open, YearEnd, Over}
@@ -128,7 +129,7 @@ recorded_err P month (Payment place drams) member r is outside large below beyon
     if_err P (payment_is_outside drams) refused.Value r (if debt_would_be_too_low drams account then Err refused.Debt else Ok paid) refuses large (λ rest.
     if_err P (debt_would_be_too_low drams account) refused.Debt r (Ok paid) rest low (λ ok. absurd cc))
 
-pub entries_are_refused : EntriesAreRefusedByTests
+entries_are_refused : (entry : Entry) (group : Group) (refusal : BookRefusal) → after_entry entry group ≡ Err refusal → stands_for_entry refusal entry group ≡ true
 entries_are_refused entry group r is =
     let P : BookRefusal → Type 0 = λ e. stands_for_entry e entry group ≡ true in
     let place = place_of entry in
@@ -163,7 +164,7 @@ check_err P start holder records r is count late capacity produces over =
     if_err P (holder_produces_nothing holder records) refused.Holder r fifth c produces (λ d.
     if_err P (some_register_over records) refused.Register r done d over (λ ok. absurd cc)))))
 
-pub openings_are_refused : OpeningsAreRefusedByTests
+openings_are_refused : (number start holder : ℕ) (records : List OpeningRecord) (group : Group) (refusal : BookRefusal) → after_opening number start holder records group ≡ Err refusal → stands_for_opening refusal start holder records group ≡ true
 openings_are_refused number start holder records group r is =
     let P : BookRefusal → Type 0 = λ e. stands_for_opening e start holder records group ≡ true in
     and_then_err (P r) (opening_phase group.phase) (λ (done : Unit {0}). opening_group number start holder records) r is
@@ -179,7 +180,7 @@ month_err P places group r is none short =
     (λ closed. let (lacks, same) = no_month group.phase r closed in subst P same (none lacks))
     (λ month opened rest. if_err P (slice_is_too_short places group) refused.Bills r (Ok month) rest short (λ ok. absurd cc))
 
-pub drawings_are_refused : DrawingsAreRefusedByTests
+drawings_are_refused : (share : Share) (prices : ℕ → Prices) (places : ℕ) (group : Group) (refusal : BookRefusal) → drawing_result share prices places group ≡ Err refusal → stands_for_drawing refusal places group ≡ true
 drawings_are_refused share prices places group r is =
     month_err (λ e. stands_for_drawing e places group ≡ true) places group r
     (made_err (λ (month : ℕ). (stamp_of month group, bills_of share (prices month) group)) (drawing_month places group) r is)
@@ -190,7 +191,7 @@ stale_err : {A : Type 0} (P : BookRefusal → Type 0) (current : Bool) (a : A) (
 stale_err P true a r is stale = absurd cc
 stale_err P false a r is stale = let same : refused.Draft ≡ r = cc in subst P same (stale refl)
 
-pub issues_are_refused : IssuesAreRefusedByTests
+issues_are_refused : (share : Share) (prices : ℕ → Prices) (stamp : Stamp) (places : ℕ) (group : Group) (refusal : BookRefusal) → issue_result share prices stamp places group ≡ Err refusal → stands_for_issue refusal stamp places group ≡ true
 issues_are_refused share prices stamp places group r is =
     let P : BookRefusal → Type 0 = λ e. stands_for_issue e stamp places group ≡ true in
     let A : ℕ → List Bill × Group = λ m. (bills_of share (prices m) group, after_month share prices m group) in
@@ -198,7 +199,7 @@ issues_are_refused share prices stamp places group r is =
     (λ none. month_err P places group r none (λ stands. stands) (λ stands. stands))
     (λ month draws rest. stale_err P (is_current group stamp) (A month) r rest (λ stale. ap (λ (b : Bool). not b) stale))
 
-pub closings_are_refused : ClosingsAreRefusedByTests
+closings_are_refused : (prices : ℕ → Prices) (group : Group) (refusal : BookRefusal) → closing_result prices group ≡ Err refusal → stands_for_closing refusal group ≡ true
 closings_are_refused prices group r is =
     let (lacks, same) = no_year group.phase r (made_err (λ (d : ℕ). (year_figures (prices d) group, after_year prices d group)) (open_year group.phase) r is) in
     subst (λ (e : BookRefusal). stands_for_closing e group ≡ true) same lacks
@@ -269,7 +270,7 @@ none_stands month entry member group opened found room none refused.Debt = of_me
 none_stands month entry member group opened found room none refused.Bills = refl
 none_stands month entry member group opened found room none refused.Draft = refl
 
-pub entries_are_accepted : EntriesAreAcceptedByTests
+entries_are_accepted : (entry : Entry) (old new : Group) (refusal : BookRefusal) → after_entry entry old ≡ Ok new → stands_for_entry refusal entry old ≡ false
 entries_are_accepted entry old new refusal is =
     let place = place_of entry in
     let (month, opened, rest) = and_then_ok (open_month old.phase) (λ (m : ℕ). entry_result place (recorded_member m entry) old) new is in
@@ -279,3 +280,145 @@ entries_are_accepted entry old new refusal is =
     let (changed, recorded, same) = made_ok (λ (a : Member). entry_group place a old) (recorded_member month entry member) new last in
     let (space, done) = if_ok (month_is_full old) refused.Full (Ok tt) room has in
     none_stands month entry member old opened found space (recorded_ok month entry member changed recorded) refusal
+
+no_opening_stands : (start holder : ℕ) (records : List OpeningRecord) (group : Group) → was_opened group.phase ≡ false → count_is_outside records ≡ false → start_is_too_late start ≡ false → is_over_capacity records ≡ false → holder_produces_nothing holder records ≡ false → some_register_over records ≡ false → (refusal : BookRefusal) → stands_for_opening refusal start holder records group ≡ false
+no_opening_stands start holder records group fresh count early small produces low refused.Opened = fresh
+no_opening_stands start holder records group fresh count early small produces low refused.Count = count
+no_opening_stands start holder records group fresh count early small produces low refused.Start = early
+no_opening_stands start holder records group fresh count early small produces low refused.Capacity = small
+no_opening_stands start holder records group fresh count early small produces low refused.Holder = produces
+no_opening_stands start holder records group fresh count early small produces low refused.Register = low
+no_opening_stands start holder records group fresh count early small produces low refused.NoMonth = refl
+no_opening_stands start holder records group fresh count early small produces low refused.NoYearEnd = refl
+no_opening_stands start holder records group fresh count early small produces low refused.Place = refl
+no_opening_stands start holder records group fresh count early small produces low refused.Full = refl
+no_opening_stands start holder records group fresh count early small produces low refused.Day = refl
+no_opening_stands start holder records group fresh count early small produces low refused.Value = refl
+no_opening_stands start holder records group fresh count early small produces low refused.Below = refl
+no_opening_stands start holder records group fresh count early small produces low refused.Tally = refl
+no_opening_stands start holder records group fresh count early small produces low refused.Debt = refl
+no_opening_stands start holder records group fresh count early small produces low refused.Bills = refl
+no_opening_stands start holder records group fresh count early small produces low refused.Draft = refl
+
+no_drawing_stands : (places : ℕ) (group : Group) → no_month_is_open group.phase ≡ false → slice_is_too_short places group ≡ false → (refusal : BookRefusal) → stands_for_drawing refusal places group ≡ false
+no_drawing_stands places group some long refused.Opened = refl
+no_drawing_stands places group some long refused.Count = refl
+no_drawing_stands places group some long refused.Start = refl
+no_drawing_stands places group some long refused.Capacity = refl
+no_drawing_stands places group some long refused.Holder = refl
+no_drawing_stands places group some long refused.Register = refl
+no_drawing_stands places group some long refused.NoMonth = some
+no_drawing_stands places group some long refused.NoYearEnd = refl
+no_drawing_stands places group some long refused.Place = refl
+no_drawing_stands places group some long refused.Full = refl
+no_drawing_stands places group some long refused.Day = refl
+no_drawing_stands places group some long refused.Value = refl
+no_drawing_stands places group some long refused.Below = refl
+no_drawing_stands places group some long refused.Tally = refl
+no_drawing_stands places group some long refused.Debt = refl
+no_drawing_stands places group some long refused.Bills = long
+no_drawing_stands places group some long refused.Draft = refl
+
+no_issue_stands : (stamp : Stamp) (places : ℕ) (group : Group) → no_month_is_open group.phase ≡ false → slice_is_too_short places group ≡ false → draft_is_out_of_date group stamp ≡ false → (refusal : BookRefusal) → stands_for_issue refusal stamp places group ≡ false
+no_issue_stands stamp places group some long current refused.Opened = refl
+no_issue_stands stamp places group some long current refused.Count = refl
+no_issue_stands stamp places group some long current refused.Start = refl
+no_issue_stands stamp places group some long current refused.Capacity = refl
+no_issue_stands stamp places group some long current refused.Holder = refl
+no_issue_stands stamp places group some long current refused.Register = refl
+no_issue_stands stamp places group some long current refused.NoMonth = some
+no_issue_stands stamp places group some long current refused.NoYearEnd = refl
+no_issue_stands stamp places group some long current refused.Place = refl
+no_issue_stands stamp places group some long current refused.Full = refl
+no_issue_stands stamp places group some long current refused.Day = refl
+no_issue_stands stamp places group some long current refused.Value = refl
+no_issue_stands stamp places group some long current refused.Below = refl
+no_issue_stands stamp places group some long current refused.Tally = refl
+no_issue_stands stamp places group some long current refused.Debt = refl
+no_issue_stands stamp places group some long current refused.Bills = long
+no_issue_stands stamp places group some long current refused.Draft = current
+
+no_closing_stands : (group : Group) → no_year_has_ended group.phase ≡ false → (refusal : BookRefusal) → stands_for_closing refusal group ≡ false
+no_closing_stands group ended refused.Opened = refl
+no_closing_stands group ended refused.Count = refl
+no_closing_stands group ended refused.Start = refl
+no_closing_stands group ended refused.Capacity = refl
+no_closing_stands group ended refused.Holder = refl
+no_closing_stands group ended refused.Register = refl
+no_closing_stands group ended refused.NoMonth = refl
+no_closing_stands group ended refused.NoYearEnd = ended
+no_closing_stands group ended refused.Place = refl
+no_closing_stands group ended refused.Full = refl
+no_closing_stands group ended refused.Day = refl
+no_closing_stands group ended refused.Value = refl
+no_closing_stands group ended refused.Below = refl
+no_closing_stands group ended refused.Tally = refl
+no_closing_stands group ended refused.Debt = refl
+no_closing_stands group ended refused.Bills = refl
+no_closing_stands group ended refused.Draft = refl
+
+month_ok : (places : ℕ) (group : Group) (month : ℕ) → drawing_month places group ≡ Ok month → (no_month_is_open group.phase ≡ false) × (slice_is_too_short places group ≡ false)
+month_ok places group month draws =
+    let (m, opened, rest) = and_then_ok (open_month group.phase) (λ (m : ℕ). if slice_is_too_short places group then Err refused.Bills else Ok m) month draws in
+    let (long, same) = if_ok (slice_is_too_short places group) refused.Bills (Ok m) month rest in
+    (some_month group.phase m opened, long)
+
+openings_are_accepted : (number start holder : ℕ) (records : List OpeningRecord) (old new : Group) (refusal : BookRefusal) → after_opening number start holder records old ≡ Ok new → stands_for_opening refusal start holder records old ≡ false
+openings_are_accepted number start holder records old new refusal is =
+    let (done, fresh, rest) = and_then_ok (opening_phase old.phase) (λ (d : Unit {0}). opening_group number start holder records) new is in
+    let (unopened, begun) = if_ok (was_opened old.phase) refused.Opened (Ok tt) done fresh in
+    let (checked, fits, same) = made_ok (λ (d : Unit {0}). record blank { number = number; holder = holder; members = record { items = members_of records }; phase = Open start }) (opening_check start holder records) new rest in
+    let fifth : Result (Unit {0}) BookRefusal = if some_register_over records then Err refused.Register else Ok tt in
+    let fourth : Result (Unit {0}) BookRefusal = if holder_produces_nothing holder records then Err refused.Holder else fifth in
+    let third : Result (Unit {0}) BookRefusal = if is_over_capacity records then Err refused.Capacity else fourth in
+    let second : Result (Unit {0}) BookRefusal = if start_is_too_late start then Err refused.Start else third in
+    let (count, a) = if_ok (count_is_outside records) refused.Count second checked fits in
+    let (early, b) = if_ok (start_is_too_late start) refused.Start third checked a in
+    let (small, c) = if_ok (is_over_capacity records) refused.Capacity fourth checked b in
+    let (produces, d) = if_ok (holder_produces_nothing holder records) refused.Holder fifth checked c in
+    let (low, e) = if_ok (some_register_over records) refused.Register (Ok tt) checked d in
+    no_opening_stands start holder records old unopened count early small produces low refusal
+
+drawings_are_accepted : (share : Share) (prices : ℕ → Prices) (places : ℕ) (group : Group) (refusal : BookRefusal) (drawn : Stamp × List Bill) → drawing_result share prices places group ≡ Ok drawn → stands_for_drawing refusal places group ≡ false
+drawings_are_accepted share prices places group refusal drawn is =
+    let (month, draws, same) = made_ok (λ (m : ℕ). (stamp_of m group, bills_of share (prices m) group)) (drawing_month places group) drawn is in
+    let (some, long) = month_ok places group month draws in
+    no_drawing_stands places group some long refusal
+
+-- a draft is current where an issue is accepted
+current_ok : {A : Type 0} (current : Bool) (a : A) (b : A) → (if current then Ok a else Err refused.Draft) ≡ Ok b → current ≡ true
+current_ok true a b is = refl
+current_ok false a b is = absurd cc
+
+issues_are_accepted : (share : Share) (prices : ℕ → Prices) (stamp : Stamp) (places : ℕ) (group : Group) (refusal : BookRefusal) (issued : List Bill × Group) → issue_result share prices stamp places group ≡ Ok issued → stands_for_issue refusal stamp places group ≡ false
+issues_are_accepted share prices stamp places group refusal issued is =
+    let A : ℕ → List Bill × Group = λ m. (bills_of share (prices m) group, after_month share prices m group) in
+    let (month, draws, rest) = and_then_ok (drawing_month places group) (λ (m : ℕ). if is_current group stamp then Ok (A m) else Err refused.Draft) issued is in
+    let (some, long) = month_ok places group month draws in
+    no_issue_stands stamp places group some long (ap (λ (b : Bool). not b) (current_ok (is_current group stamp) (A month) issued rest)) refusal
+
+some_year : (phase : Phase) (december : ℕ) → open_year phase ≡ Ok december → no_year_has_ended phase ≡ false
+some_year Blank december is = absurd cc
+some_year (Open m) december is = absurd cc
+some_year (YearEnd d) december is = refl
+some_year Over december is = absurd cc
+
+closings_are_accepted : (prices : ℕ → Prices) (group : Group) (refusal : BookRefusal) (closed : YearFigures × Group) → closing_result prices group ≡ Ok closed → stands_for_closing refusal group ≡ false
+closings_are_accepted prices group refusal closed is =
+    let (december, ended, same) = made_ok (λ (d : ℕ). (year_figures (prices d) group, after_year prices d group)) (open_year group.phase) closed is in
+    no_closing_stands group (some_year group.phase december ended) refusal
+
+pub entries : EntriesStandByTests
+entries = record { refused = entries_are_refused; accepted = entries_are_accepted }
+
+pub openings : OpeningsStandByTests
+openings = record { refused = openings_are_refused; accepted = openings_are_accepted }
+
+pub drawings : DrawingsStandByTests
+drawings = record { refused = drawings_are_refused; accepted = drawings_are_accepted }
+
+pub issues : IssuesStandByTests
+issues = record { refused = issues_are_refused; accepted = issues_are_accepted }
+
+pub closings : ClosingsStandByTests
+closings = record { refused = closings_are_refused; accepted = closings_are_accepted }

@@ -1,5 +1,5 @@
 -- The book's refusals: the number of each, what it stands for in words, and the test of the input by which it stands.
--- In which order the tests come, each call's own definition says.
+-- In which order the tests come, each call's own definition says, and that a call refuses by these very tests, `Standing`.
 use Rattle.std.specs.Prelude.{ℕ, ℤ, Bool, List, codes}
 use Rattle.billing.specs.declared.account.Account.{Account}
 use Rattle.ledger.specs.declared.entry.Entry.{Entry}

@@ -8,11 +8,10 @@ use Rattle.ledger.specs.declared.entry.Entry.TheVariants.{Reading, Change, Corre
 use Rattle.group.specs.Books.{after_opening}
 use Rattle.group.specs.Drafts.{Stamp, drawing_result, issue_result}
 use Rattle.group.specs.Entries.{after_entry, place_of}
-use Rattle.group.specs.Groups.{member_at}
 use Rattle.group.specs.Members.{register_at}
 use Rattle.group.specs.Months.{Prices, Share}
 use Rattle.group.specs.Refusals.{test_of}
-use Rattle.group.specs.Years.{closing_result, preview_result}
+use Rattle.group.specs.Years.{closing_result}
 use Rattle.group.specs.declared.group.Group.{Group}
 use Rattle.group.specs.declared.group.Phase.{Phase}
 use Rattle.group.specs.declared.group.Phase.TheVariants.{Blank, Open, YearEnd as AtYearEnd, Over}
@@ -102,40 +101,56 @@ abbrev pub stands_for_closing : BookRefusal → Group → Bool
 stands_for_closing refused.NoYearEnd group = test_of refused.NoYearEnd group.phase
 stands_for_closing other group = false
 
--- a refused entry is one of which the test of the refusal holds
-abbrev pub EntriesAreRefusedByTests : Type 0
-EntriesAreRefusedByTests =
-    (entry : Entry) (group : Group) (refusal : BookRefusal)
-    → after_entry entry group ≡ Err refusal → stands_for_entry refusal entry group ≡ true
+-- a refused entry is one of which the test of the refusal holds, and of an accepted one none does
+pub record EntriesStandByTests : Type 0 where
+  pub refused :
+      (entry : Entry) (group : Group) (refusal : BookRefusal)
+      → after_entry entry group ≡ Err refusal → stands_for_entry refusal entry group ≡ true
+  pub accepted :
+      (entry : Entry) (old new : Group) (refusal : BookRefusal)
+      → after_entry entry old ≡ Ok new → stands_for_entry refusal entry old ≡ false
 
--- of an accepted entry no test of a refusal holds
-abbrev pub EntriesAreAcceptedByTests : Type 0
-EntriesAreAcceptedByTests =
-    (entry : Entry) (old new : Group) (refusal : BookRefusal)
-    → after_entry entry old ≡ Ok new → stands_for_entry refusal entry old ≡ false
+-- so it is of an opening
+pub record OpeningsStandByTests : Type 0 where
+  pub refused :
+      (number start holder : ℕ) (records : List OpeningRecord) (group : Group) (refusal : BookRefusal)
+      → after_opening number start holder records group ≡ Err refusal
+      → stands_for_opening refusal start holder records group ≡ true
+  pub accepted :
+      (number start holder : ℕ) (records : List OpeningRecord) (old new : Group) (refusal : BookRefusal)
+      → after_opening number start holder records old ≡ Ok new
+      → stands_for_opening refusal start holder records old ≡ false
 
--- a refused opening is one of which the test of the refusal holds
-abbrev pub OpeningsAreRefusedByTests : Type 0
-OpeningsAreRefusedByTests =
-    (number start holder : ℕ) (records : List OpeningRecord) (group : Group) (refusal : BookRefusal)
-    → after_opening number start holder records group ≡ Err refusal
-    → stands_for_opening refusal start holder records group ≡ true
+-- so it is of a drawing
+pub record DrawingsStandByTests : Type 0 where
+  pub refused :
+      (share : Share) (prices : ℕ → Prices) (places : ℕ) (group : Group) (refusal : BookRefusal)
+      → drawing_result share prices places group ≡ Err refusal
+      → stands_for_drawing refusal places group ≡ true
+  pub accepted :
+      (share : Share) (prices : ℕ → Prices) (places : ℕ) (group : Group) (refusal : BookRefusal)
+      (drawn : Stamp × List Bill)
+      → drawing_result share prices places group ≡ Ok drawn
+      → stands_for_drawing refusal places group ≡ false
 
--- so is a refused drawing
-abbrev pub DrawingsAreRefusedByTests : Type 0
-DrawingsAreRefusedByTests =
-    (share : Share) (prices : ℕ → Prices) (places : ℕ) (group : Group) (refusal : BookRefusal)
-    → drawing_result share prices places group ≡ Err refusal → stands_for_drawing refusal places group ≡ true
+-- so it is of an issue
+pub record IssuesStandByTests : Type 0 where
+  pub refused :
+      (share : Share) (prices : ℕ → Prices) (stamp : Stamp) (places : ℕ)
+      (group : Group) (refusal : BookRefusal)
+      → issue_result share prices stamp places group ≡ Err refusal
+      → stands_for_issue refusal stamp places group ≡ true
+  pub accepted :
+      (share : Share) (prices : ℕ → Prices) (stamp : Stamp) (places : ℕ)
+      (group : Group) (refusal : BookRefusal) (issued : List Bill × Group)
+      → issue_result share prices stamp places group ≡ Ok issued
+      → stands_for_issue refusal stamp places group ≡ false
 
--- so is a refused issue
-abbrev pub IssuesAreRefusedByTests : Type 0
-IssuesAreRefusedByTests =
-    (share : Share) (prices : ℕ → Prices) (stamp : Stamp) (places : ℕ) (group : Group) (refusal : BookRefusal)
-    → issue_result share prices stamp places group ≡ Err refusal
-    → stands_for_issue refusal stamp places group ≡ true
-
--- so is a refused closing of a year
-abbrev pub ClosingsAreRefusedByTests : Type 0
-ClosingsAreRefusedByTests =
-    (prices : ℕ → Prices) (group : Group) (refusal : BookRefusal)
-    → closing_result prices group ≡ Err refusal → stands_for_closing refusal group ≡ true
+-- so it is of the closing of a year
+pub record ClosingsStandByTests : Type 0 where
+  pub refused :
+      (prices : ℕ → Prices) (group : Group) (refusal : BookRefusal)
+      → closing_result prices group ≡ Err refusal → stands_for_closing refusal group ≡ true
+  pub accepted :
+      (prices : ℕ → Prices) (group : Group) (refusal : BookRefusal) (closed : YearEnd × Group)
+      → closing_result prices group ≡ Ok closed → stands_for_closing refusal group ≡ false
