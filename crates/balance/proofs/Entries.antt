@@ -12,12 +12,11 @@ use Rattle.ledger.specs.declared.zone.Flow.{Flow}
 use Rattle.ledger.specs.declared.zone.Flow.TheVariants.{Consumed, Delivered}
 use Rattle.ledger.specs.declared.zone.Zone.{Zone}
 use Rattle.ledger.specs.declared.zone.Zone.TheVariants.{Day, Night}
-use Rattle.group.proofs.Stepping.{and_then_ok, made_ok}
+use Rattle.group.proofs.Stepping.{made_ok}
 use Rattle.group.specs.Groups.{entry_result, entry_group}
 use Rattle.group.specs.Members.{on_account, on_register, register_at, with_register}
 use Rattle.group.specs.Payments.{with_payment}
 use Rattle.group.specs.Registers.{with_correction, quantity, with_reading}
-use Rattle.group.specs.Results.{result_map}
 use Rattle.group.specs.declared.refusal.BookRefusal.{BookRefusal}
 use Rattle.group.specs.declared.group.Group.{Group}
 use Rattle.group.specs.declared.group.Phase.{Phase}

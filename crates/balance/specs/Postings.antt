@@ -123,7 +123,7 @@ kwh_paid zone [] = 0
 kwh_paid zone (YearPaid figures ∷ earlier) = kwh_paid zone earlier + in_zone figures.paid zone
 kwh_paid zone (other ∷ earlier) = kwh_paid zone earlier
 
--- what the opening told: the holder's place, and the class of the member at a place
+-- the holder's place, as the opening told it
 abbrev pub holder_in : List AcceptedCall → ℕ
 holder_in [] = 0
 holder_in (Opened start holder records ∷ earlier) = holder

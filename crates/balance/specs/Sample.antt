@@ -202,7 +202,7 @@ abbrev account_at : (place : ℕ) → Group → Result Account BookRefusal
 account_at place group = result_map (λ member. member.account) (member_at place group)
 
 -- the calls have just this history and leave just these figures, and it balances throughout.
--- With one kWh more or less on one bill it does not: billed or covered, no kWh or no hundredth would be kept,
+-- With one kWh more on one bill it does not: with one more billed the kWh no longer balance, with one more covered the hundredths no longer do,
 -- and with one kWh billed by day in December, where a kWh is carried by day, that issue would both bill and carry
 pub record SampleTells : Type 0 where
   pub history_is :

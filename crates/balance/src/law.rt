@@ -23,7 +23,7 @@ pub fn history_leads_to_one_group()
     ensures { LeadsToOneGroup }
 {}
 
-/// After an issue the bill at each place has the debt of the member there, and as drams that less the debt before; so it is with what the closing of a year answers and the holder.
+/// After an issue the bill at each place has the debt of the member there, and as drams that less the debt before; so it is with what the closing of a year answers and the holder of a group as every book has it.
 pub fn debts_are_told()
     ensures by_lines { IssuesTellDebts }
     ensures by_year_ends { YearEndsTellDebts }

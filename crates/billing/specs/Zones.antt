@@ -29,7 +29,7 @@ abbrev pub places_match : (members to_cover to_bill : ℕ) → Bool
 places_match members to_cover to_bill =
     nat_lt 0 members && (nat_le members most_places && (to_cover == members && to_bill == members))
 
--- whether a zone is settled: 7 where the members and the places do not match, else 8 where the pool or a need is too large
+-- whether a zone is settled: 7 where there are not 1 to 32 members or not as many places in both slices, else 8 where the pool or a need is too large
 abbrev pub zone_answer : (carried : ℕ) (nets : List ℤ) (to_cover to_bill : ℕ)
     → Result (Unit {0}) ShareRefusal
 zone_answer carried nets to_cover to_bill =

@@ -6,5 +6,6 @@ mod Nets
 pub mod OpeningSound
 mod Postings
 mod Quantities
+pub mod Standing
 pub mod Stepping
 pub mod YearsSound

@@ -10,4 +10,5 @@ pub mod Refusals
 pub mod Registers
 pub mod Results
 pub mod Sound
+pub mod Standing
 pub mod Years

@@ -1,5 +1,5 @@
 -- What a payment does to an account.
-use Rattle.std.specs.Prelude.{ℕ, Bool, ◌||◌, if◌then◌else◌, ℤ, pos, neg_ℤ, ◌-ℤ◌, int_lt, nat_lt, Ok, Err, Result}
+use Rattle.std.specs.Prelude.{ℕ, Bool, ◌||◌, if◌then◌else◌, pos, neg_ℤ, ◌-ℤ◌, int_lt, nat_lt, Ok, Err, Result}
 use Rattle.billing.specs.declared.account.Account.{Account}
 use Rattle.group.specs.declared.refusal.BookRefusal.{BookRefusal}
 use Rattle.group.specs.declared.refusal.BookRefusal.TheVariants.{Value, Debt}

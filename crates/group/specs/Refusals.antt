@@ -1,5 +1,5 @@
 -- The book's refusals: the number of each, what it stands for in words, and the test of the input by which it stands.
--- In which order the tests come, each call's own definition says.
+-- In which order the tests come, each call's own definition says, and that a call refuses by these very tests, `Standing`.
 use Rattle.std.specs.Prelude.{ℕ, ℤ, Bool, List, codes}
 use Rattle.billing.specs.declared.account.Account.{Account}
 use Rattle.ledger.specs.declared.entry.Entry.{Entry}
@@ -23,7 +23,7 @@ pub record Meaning : Type 0 where
 
 -- the refusals of the book's calls
 abbrev pub meaning : BookRefusal → Meaning
-meaning Opened = record { number = 1; words = codes "the book is open already" }
+meaning Opened = record { number = 1; words = codes "the book was opened before" }
 meaning Count = record { number = 2; words = codes "a group has 1 to 32 members" }
 meaning Start = record { number = 3; words = codes "no book opens after December 2099" }
 meaning Capacity = record { number = 4; words = codes "a member has over 150 kW, or all together have over 1050 kW" }
@@ -37,7 +37,7 @@ meaning Day = record { number = 15; words = codes "the day is not one of the ope
 meaning Value = record { number = 16; words = codes "the value, the correction or the payment is out of its range" }
 meaning Below = record { number = 17; words = codes "the register stands higher already" }
 meaning Tally = record { number = 18; words = codes "the register would have over 1000000 kWh in the month, either way" }
-meaning Debt = record { number = 19; words = codes "the member would have paid over 1000000000 drams in advance" }
+meaning Debt = record { number = 19; words = codes "the payment would leave the member over 1000000000 drams in credit" }
 meaning Bills = record { number = 20; words = codes "there are more members than places for bills" }
 meaning Draft = record { number = 21; words = codes "the draft is out of date" }
 

@@ -9,7 +9,7 @@ mod refusal;
 mod register;
 
 pub use group::{Group, MOST_CAPACITIES, MOST_CAPACITY, MOST_ENTRIES, Phase};
-pub use law::{entries_alter_one, years_alter_the_holder};
+pub use law::{entries_alter_one, refusals_stand, years_alter_the_holder};
 pub use member::{Member, OpeningRecord};
 pub use payment::{LEAST_DEBT, MOST_PAYMENT};
 pub use refusal::BookRefusal;

@@ -75,7 +75,7 @@ impl BookRefusal {
         ensures { result.now ≡ (meaning self).words }
     {
         match self {
-            BookRefusal::Opened => "the book is open already",
+            BookRefusal::Opened => "the book was opened before",
             BookRefusal::Count => "a group has 1 to 32 members",
             BookRefusal::Start => "no book opens after December 2099",
             BookRefusal::Capacity => "a member has over 150 kW, or all together have over 1050 kW",
@@ -91,7 +91,8 @@ impl BookRefusal {
             BookRefusal::Tally => {
                 "the register would have over 1000000 kWh in the month, either way"
             }
-            BookRefusal::Debt => "the member would have paid over 1000000000 drams in advance",
+            BookRefusal::Debt =>
+                "the payment would leave the member over 1000000000 drams in credit",
             BookRefusal::Bills => "there are more members than places for bills",
             BookRefusal::Draft => "the draft is out of date",
         }

@@ -1,4 +1,4 @@
--- The limits of what is shared that stand in many specs, each by its name.
+-- The most places, by name.
 use Rattle.std.specs.Prelude.{ℕ}
 
 -- the most places among which a pool is shared

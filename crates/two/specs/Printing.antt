@@ -1,4 +1,4 @@
--- What the program prints for a journal.
+-- What the program is to print for a journal.
 use Rattle.std.specs.Prelude.{◌≡◌, ℕ, List, [], ◌++◌, None, Option, Some}
 use Rattle.cells.specs.Cells.{Puts}
 use Rattle.settlement.specs.Faults.{fault_line}
@@ -18,7 +18,7 @@ abbrev pub WritesOutput : (journal text : List ℕ) → Option RunFault → Type
 WritesOutput journal text fault =
     (ran : RunResult) × RunsOver proportion (λ month. prices) journal 65536 group_of_two ran × (text ≡ ran.text) × (fault ≡ ran.fault)
 
--- for a journal is printed what its run writes, and then the line of the fault that it stops at
+-- for a journal is to be printed what its run writes, and then the line of the fault that it stops at
 pub record PrintsOutput (journal printed : List ℕ) : Type 0 where
   pub text : List ℕ
   pub fault : Option RunFault
