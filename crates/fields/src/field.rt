@@ -15,7 +15,7 @@ pub struct Field<'a> {
     pub part: &'a [u8],
 }
 
-/// Where a field stands that has not its form.
+/// Where a field stands that is spelled wrong.
 #[derive(Clone, Copy, PartialEq, Eq, Debug)]
 pub struct WrongField {
     /// The line, counted from 1.

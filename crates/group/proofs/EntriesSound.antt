@@ -104,7 +104,7 @@ open_is Over month is = absurd cc
 owed_enough : (phase : Phase) (month : ℕ) → phase ≡ Open month → 1000000000 ≤ most_owed phase
 owed_enough phase month is = let owed : most_owed phase ≡ 1000000000 + 2000000000000 * month = ap most_owed is in omega (arith, owed)
 
--- the month has under 1,000 entries
+-- one entry more fits into the month
 has_room : (group : Group) (done : Unit {0}) → room_for_entry group ≡ Ok done → group.entries < most_in_month
 has_room group done is = grind (arith, nat_tests)
 

@@ -20,7 +20,7 @@ pub record KeepsTerms {R T : Type 0} (old new : BookState R T) : Type 0 where
   pub rule : new.rule ≡ old.rule
   pub tariff : new.tariff ≡ old.tariff
 
--- the group was opened before
+-- a group stands in the book already
 abbrev pub was_opened : Phase → Bool
 was_opened Blank = false
 was_opened (Open month) = true

@@ -36,7 +36,7 @@ agrees Over group stamp = false
 abbrev pub is_current : Group → Stamp → Bool
 is_current group stamp = agrees group.phase group stamp
 
--- a draft is not current
+-- something was posted since the draft, or it is of elsewhere
 abbrev pub draft_is_out_of_date : Group → Stamp → Bool
 draft_is_out_of_date group stamp = not (is_current group stamp)
 

@@ -39,7 +39,7 @@ most_capacities = 1050
 abbrev pub most_in_month : ℕ
 most_in_month = 1000
 
--- there are not 1 to 32 records
+-- the list of records is empty, or longer than a group may be
 abbrev pub count_is_outside : List OpeningRecord → Bool
 count_is_outside records = nat_lt (length records) 1 || nat_lt most_members (length records)
 
@@ -61,7 +61,7 @@ is_over_capacity records = not (capacities_fit records)
 abbrev pub is_producer : (place : ℕ) → List OpeningRecord → Bool
 is_producer place records = option_map_or (λ opening. nat_lt 0 (capacity_of opening)) (slice_get records place) false
 
--- the holder's place has no record with capacity above 0
+-- whoever is named for the holder makes nothing, or is nobody
 abbrev pub holder_produces_nothing : (holder : ℕ) → List OpeningRecord → Bool
 holder_produces_nothing holder records = not (is_producer holder records)
 
@@ -97,7 +97,7 @@ opening_group number start holder records =
 abbrev pub member_at : (place : ℕ) → Group → Result Member BookRefusal
 member_at place group = ok_or (slice_get group.members.items place) refused.Place
 
--- the place has no record
+-- nobody stands at the place
 abbrev pub place_has_no_record : (place : ℕ) → Group → Bool
 place_has_no_record place group = is_none (slice_get group.members.items place)
 

@@ -16,7 +16,7 @@ most_in_advance = 1000000000
 abbrev pub payment_is_outside : (drams : ℕ) → Bool
 payment_is_outside drams = nat_lt drams 1 || nat_lt most_payment drams
 
--- a payment would leave a debt below -1,000,000,000 drams
+-- the group would owe the member too much after a payment
 abbrev pub debt_would_be_too_low : (drams : ℕ) → Account → Bool
 debt_would_be_too_low drams account = int_lt (account.debt -ℤ pos drams) (neg_ℤ (pos most_in_advance))
 

@@ -23,7 +23,7 @@ pub record Meaning : Type 0 where
 
 -- the refusals of the book's calls
 abbrev pub meaning : BookRefusal → Meaning
-meaning Opened = record { number = 1; words = codes "the book was opened before" }
+meaning Opened = record { number = 1; words = codes "the book has been opened already" }
 meaning Count = record { number = 2; words = codes "a group has 1 to 32 members" }
 meaning Start = record { number = 3; words = codes "no book opens after December 2099" }
 meaning Capacity = record { number = 4; words = codes "a member has over 150 kW, or all together have over 1050 kW" }

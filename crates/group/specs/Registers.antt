@@ -19,7 +19,7 @@ most_standing = 9999999
 abbrev pub most_tally : ℕ
 most_tally = 1000000
 
--- the day lies outside the month
+-- the day belongs to another month
 abbrev pub day_is_outside : (month day : ℕ) → Bool
 day_is_outside month day = not (lies_in day month)
 

@@ -75,7 +75,7 @@ impl BookRefusal {
         ensures { result.now ≡ (meaning self).words }
     {
         match self {
-            BookRefusal::Opened => "the book was opened before",
+            BookRefusal::Opened => "the book has been opened already",
             BookRefusal::Count => "a group has 1 to 32 members",
             BookRefusal::Start => "no book opens after December 2099",
             BookRefusal::Capacity => "a member has over 150 kW, or all together have over 1050 kW",
