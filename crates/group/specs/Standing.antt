@@ -11,7 +11,8 @@ use Rattle.group.specs.Entries.{after_entry, place_of}
 use Rattle.group.specs.Members.{register_at}
 use Rattle.group.specs.Months.{Prices, Share}
 use Rattle.group.specs.Refusals.{test_of}
-use Rattle.group.specs.Years.{closing_result}
+use Rattle.group.specs.Groups.{member_at}
+use Rattle.group.specs.Years.{closing_result, preview_result}
 use Rattle.group.specs.declared.group.Group.{Group}
 use Rattle.group.specs.declared.group.Phase.{Phase}
 use Rattle.group.specs.declared.group.Phase.TheVariants.{Blank, Open, YearEnd as AtYearEnd, Over}
@@ -101,6 +102,11 @@ abbrev pub stands_for_closing : BookRefusal → Group → Bool
 stands_for_closing refused.NoYearEnd group = test_of refused.NoYearEnd group.phase
 stands_for_closing other group = false
 
+-- so it does of asking for a record
+abbrev pub stands_for_member : BookRefusal → (place : ℕ) → Group → Bool
+stands_for_member refused.Place place group = test_of refused.Place place group
+stands_for_member other place group = false
+
 -- a refused entry is one of which the test of the refusal holds, and of an accepted one none does
 pub record EntriesStandByTests : Type 0 where
   pub refused :
@@ -146,7 +152,7 @@ pub record IssuesStandByTests : Type 0 where
       → issue_result share prices stamp places group ≡ Ok issued
       → stands_for_issue refusal stamp places group ≡ false
 
--- so it is of the closing of a year
+-- so it is of the closing of a year, and asking for its figures is refused just so
 pub record ClosingsStandByTests : Type 0 where
   pub refused :
       (prices : ℕ → Prices) (group : Group) (refusal : BookRefusal)
@@ -154,3 +160,15 @@ pub record ClosingsStandByTests : Type 0 where
   pub accepted :
       (prices : ℕ → Prices) (group : Group) (refusal : BookRefusal) (closed : YearEnd × Group)
       → closing_result prices group ≡ Ok closed → stands_for_closing refusal group ≡ false
+  pub previewed :
+      (prices : ℕ → Prices) (group : Group) (refusal : BookRefusal)
+      → preview_result prices group ≡ Err refusal → stands_for_closing refusal group ≡ true
+
+-- so it is of asking for a record
+pub record MembersStandByTests : Type 0 where
+  pub refused :
+      (place : ℕ) (group : Group) (refusal : BookRefusal)
+      → member_at place group ≡ Err refusal → stands_for_member refusal place group ≡ true
+  pub accepted :
+      (place : ℕ) (group : Group) (refusal : BookRefusal) (member : Member)
+      → member_at place group ≡ Ok member → stands_for_member refusal place group ≡ false
