@@ -41,8 +41,10 @@ day_stands (Payment place drams) month = false
 
 -- the test of what the register stands at
 abbrev pub below_stands : Entry → Member → Bool
-below_stands (Reading at day value) member = test_of refused.Below (register_at at member).standing value
-below_stands (Change at day value start) member = test_of refused.Below (register_at at member).standing value
+below_stands (Reading at day value) member =
+    test_of refused.Below (register_at at member).standing value
+below_stands (Change at day value start) member =
+    test_of refused.Below (register_at at member).standing value
 below_stands (Correction at kwh) member = false
 below_stands (Payment place drams) member = false
 
@@ -54,7 +56,8 @@ tally_stands (Reading at day value) member =
 tally_stands (Change at day value start) member =
     let register = register_at at member in
     test_of refused.Tally (register.tally +ℤ pos (value - register.standing))
-tally_stands (Correction at kwh) member = test_of refused.Tally ((register_at at member).tally +ℤ kwh)
+tally_stands (Correction at kwh) member =
+    test_of refused.Tally ((register_at at member).tally +ℤ kwh)
 tally_stands (Payment place drams) member = false
 
 -- the test of the debt that a payment would leave
@@ -71,9 +74,12 @@ stands_for_entry refused.Place entry group = test_of refused.Place (place_of ent
 stands_for_entry refused.Full entry group = test_of refused.Full group
 stands_for_entry refused.Day entry group = holds_of_month (day_stands entry) group.phase
 stands_for_entry refused.Value entry group = test_of refused.Value entry
-stands_for_entry refused.Below entry group = holds_of_member (below_stands entry) (place_of entry) group
-stands_for_entry refused.Tally entry group = holds_of_member (tally_stands entry) (place_of entry) group
-stands_for_entry refused.Debt entry group = holds_of_member (debt_stands entry) (place_of entry) group
+stands_for_entry refused.Below entry group =
+    holds_of_member (below_stands entry) (place_of entry) group
+stands_for_entry refused.Tally entry group =
+    holds_of_member (tally_stands entry) (place_of entry) group
+stands_for_entry refused.Debt entry group =
+    holds_of_member (debt_stands entry) (place_of entry) group
 stands_for_entry other entry group = false
 
 -- so it does of an opening
@@ -119,11 +125,13 @@ pub record EntriesStandByTests : Type 0 where
 -- so it is of an opening
 pub record OpeningsStandByTests : Type 0 where
   pub refused :
-      (number start holder : ℕ) (records : List OpeningRecord) (group : Group) (refusal : BookRefusal)
+      (number start holder : ℕ) (records : List OpeningRecord)
+      (group : Group) (refusal : BookRefusal)
       → after_opening number start holder records group ≡ Err refusal
       → stands_for_opening refusal start holder records group ≡ true
   pub accepted :
-      (number start holder : ℕ) (records : List OpeningRecord) (old new : Group) (refusal : BookRefusal)
+      (number start holder : ℕ) (records : List OpeningRecord)
+      (old new : Group) (refusal : BookRefusal)
       → after_opening number start holder records old ≡ Ok new
       → stands_for_opening refusal start holder records old ≡ false
 
