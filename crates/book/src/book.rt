@@ -11,7 +11,7 @@ ghost use Rattle.group.specs.declared.group.Phase.TheVariants.{Blank};
 ghost use Rattle.group.specs.Books.{KeepsTerms, after_opening};
 ghost use Rattle.group.specs.Drafts.{after_drawing, after_issue, is_current};
 ghost use Rattle.group.specs.Entries.{after_entry};
-ghost use Rattle.group.specs.Sound.{most_carried, most_entries};
+ghost use Rattle.group.specs.Sound.{IsSoundPhase, most_carried, most_entries};
 ghost use Rattle.group.specs.Years.{closing_result, preview_result};
 
 use crate::call::Call;
@@ -98,7 +98,9 @@ impl<R: SharingRule, T: Tariff> Book<R, T> {
 
     /// The phase, with its month.
     pub fn phase(&self) -> Phase
-        ensures { result ≡ self.now.group.phase }
+        ensures phase { result ≡ self.now.group.phase }
+        ensures values { IsSoundPhase result self.now.group.holder
+            (length self.now.group.members.items) }
     {
         self.group.phase
     }

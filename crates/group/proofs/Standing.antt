@@ -11,14 +11,14 @@ use Rattle.group.proofs.Stepping.{and_then_ok, made_ok, ok_or_ok}
 use Rattle.group.specs.Books.{after_opening, opening_phase, was_opened}
 use Rattle.group.specs.Drafts.{Stamp, after_month, drawing_month, drawing_result, draft_is_out_of_date, is_current, issue_result, slice_is_too_short, stamp_of}
 use Rattle.group.specs.Entries.{after_entry, amount_is_outside, no_month_is_open, open_month, place_of, recorded_member}
-use Rattle.group.specs.Groups.{blank, count_is_outside, entry_group, entry_result, holder_produces_nothing, is_over_capacity, member_at, members_of, month_is_full, opening_check, opening_group, room_for_entry, some_register_over, start_is_too_late}
+use Rattle.group.specs.Groups.{blank, count_is_outside, entry_group, entry_result, holder_produces_nothing, is_over_capacity, member_at, members_of, month_is_full, opening_check, place_has_no_record, opening_group, room_for_entry, some_register_over, start_is_too_late}
 use Rattle.group.specs.Members.{register_at, with_register}
 use Rattle.group.specs.Months.{Prices, Share, bills_of}
 use Rattle.group.specs.Payments.{debt_would_be_too_low, payment_is_outside, with_payment}
 use Rattle.group.specs.Registers.{day_is_outside, is_beyond, is_over, quantity, tally_with, value_is_below, value_is_too_large, with_correction, with_reading, with_value}
 use Rattle.group.specs.Results.{and_then, result_map}
-use Rattle.group.specs.Standing.{ClosingsStandByTests, DrawingsStandByTests, EntriesStandByTests, IssuesStandByTests, OpeningsStandByTests, below_stands, day_stands, debt_stands, holds_of_member, holds_of_month, stands_for_closing, stands_for_drawing, stands_for_entry, stands_for_issue, stands_for_opening, tally_stands}
-use Rattle.group.specs.Years.{after_year, closing_result, no_year_has_ended, open_year, year_figures}
+use Rattle.group.specs.Standing.{ClosingsStandByTests, DrawingsStandByTests, EntriesStandByTests, IssuesStandByTests, MembersStandByTests, OpeningsStandByTests, below_stands, day_stands, debt_stands, holds_of_member, holds_of_month, stands_for_closing, stands_for_drawing, stands_for_entry, stands_for_issue, stands_for_member, stands_for_opening, tally_stands}
+use Rattle.group.specs.Years.{after_year, closing_result, no_year_has_ended, open_year, preview_result, year_figures}
 use Rattle.group.specs.declared.group.Group.{Group}
 use Rattle.group.specs.declared.group.Phase.{Phase}
 use Rattle.group.specs.declared.group.Phase.TheVariants.{Blank, Open, YearEnd, Over}
@@ -408,6 +408,42 @@ closings_are_accepted prices group refusal closed is =
     let (december, ended, same) = made_ok (λ (d : ℕ). (year_figures (prices d) group, after_year prices d group)) (open_year group.phase) closed is in
     no_closing_stands group (some_year group.phase december ended) refusal
 
+no_member_stands : (place : ℕ) (group : Group) → place_has_no_record place group ≡ false → (refusal : BookRefusal) → stands_for_member refusal place group ≡ false
+no_member_stands place group there refused.Opened = refl
+no_member_stands place group there refused.Count = refl
+no_member_stands place group there refused.Start = refl
+no_member_stands place group there refused.Capacity = refl
+no_member_stands place group there refused.Holder = refl
+no_member_stands place group there refused.Register = refl
+no_member_stands place group there refused.NoMonth = refl
+no_member_stands place group there refused.NoYearEnd = refl
+no_member_stands place group there refused.Place = there
+no_member_stands place group there refused.Full = refl
+no_member_stands place group there refused.Day = refl
+no_member_stands place group there refused.Value = refl
+no_member_stands place group there refused.Below = refl
+no_member_stands place group there refused.Tally = refl
+no_member_stands place group there refused.Debt = refl
+no_member_stands place group there refused.Bills = refl
+no_member_stands place group there refused.Draft = refl
+
+members_are_refused : (place : ℕ) (group : Group) (refusal : BookRefusal) → member_at place group ≡ Err refusal → stands_for_member refusal place group ≡ true
+members_are_refused place group refusal is =
+    let (lacks, same) = ok_or_err (slice_get group.members.items place) refused.Place refusal is in
+    subst (λ (e : BookRefusal). stands_for_member e place group ≡ true) same lacks
+
+members_are_accepted : (place : ℕ) (group : Group) (refusal : BookRefusal) (member : Member) → member_at place group ≡ Ok member → stands_for_member refusal place group ≡ false
+members_are_accepted place group refusal member is =
+    no_member_stands place group (ap (λ (o : Option Member). is_none o) (ok_or_ok (slice_get group.members.items place) refused.Place member is)) refusal
+
+previews_are_refused : (prices : ℕ → Prices) (group : Group) (refusal : BookRefusal) → preview_result prices group ≡ Err refusal → stands_for_closing refusal group ≡ true
+previews_are_refused prices group r is =
+    let (lacks, same) = no_year group.phase r (made_err (λ (d : ℕ). year_figures (prices d) group) (open_year group.phase) r is) in
+    subst (λ (e : BookRefusal). stands_for_closing e group ≡ true) same lacks
+
+pub members : MembersStandByTests
+members = record { refused = members_are_refused; accepted = members_are_accepted }
+
 pub entries : EntriesStandByTests
 entries = record { refused = entries_are_refused; accepted = entries_are_accepted }
 
@@ -421,4 +457,4 @@ pub issues : IssuesStandByTests
 issues = record { refused = issues_are_refused; accepted = issues_are_accepted }
 
 pub closings : ClosingsStandByTests
-closings = record { refused = closings_are_refused; accepted = closings_are_accepted }
+closings = record { refused = closings_are_refused; accepted = closings_are_accepted; previewed = previews_are_refused }

@@ -11,7 +11,8 @@ use Rattle.group.specs.Entries.{after_entry, place_of}
 use Rattle.group.specs.Members.{register_at}
 use Rattle.group.specs.Months.{Prices, Share}
 use Rattle.group.specs.Refusals.{test_of}
-use Rattle.group.specs.Years.{closing_result}
+use Rattle.group.specs.Groups.{member_at}
+use Rattle.group.specs.Years.{closing_result, preview_result}
 use Rattle.group.specs.declared.group.Group.{Group}
 use Rattle.group.specs.declared.group.Phase.{Phase}
 use Rattle.group.specs.declared.group.Phase.TheVariants.{Blank, Open, YearEnd as AtYearEnd, Over}
@@ -40,8 +41,10 @@ day_stands (Payment place drams) month = false
 
 -- the test of what the register stands at
 abbrev pub below_stands : Entry → Member → Bool
-below_stands (Reading at day value) member = test_of refused.Below (register_at at member).standing value
-below_stands (Change at day value start) member = test_of refused.Below (register_at at member).standing value
+below_stands (Reading at day value) member =
+    test_of refused.Below (register_at at member).standing value
+below_stands (Change at day value start) member =
+    test_of refused.Below (register_at at member).standing value
 below_stands (Correction at kwh) member = false
 below_stands (Payment place drams) member = false
 
@@ -53,7 +56,8 @@ tally_stands (Reading at day value) member =
 tally_stands (Change at day value start) member =
     let register = register_at at member in
     test_of refused.Tally (register.tally +ℤ pos (value - register.standing))
-tally_stands (Correction at kwh) member = test_of refused.Tally ((register_at at member).tally +ℤ kwh)
+tally_stands (Correction at kwh) member =
+    test_of refused.Tally ((register_at at member).tally +ℤ kwh)
 tally_stands (Payment place drams) member = false
 
 -- the test of the debt that a payment would leave
@@ -70,9 +74,12 @@ stands_for_entry refused.Place entry group = test_of refused.Place (place_of ent
 stands_for_entry refused.Full entry group = test_of refused.Full group
 stands_for_entry refused.Day entry group = holds_of_month (day_stands entry) group.phase
 stands_for_entry refused.Value entry group = test_of refused.Value entry
-stands_for_entry refused.Below entry group = holds_of_member (below_stands entry) (place_of entry) group
-stands_for_entry refused.Tally entry group = holds_of_member (tally_stands entry) (place_of entry) group
-stands_for_entry refused.Debt entry group = holds_of_member (debt_stands entry) (place_of entry) group
+stands_for_entry refused.Below entry group =
+    holds_of_member (below_stands entry) (place_of entry) group
+stands_for_entry refused.Tally entry group =
+    holds_of_member (tally_stands entry) (place_of entry) group
+stands_for_entry refused.Debt entry group =
+    holds_of_member (debt_stands entry) (place_of entry) group
 stands_for_entry other entry group = false
 
 -- so it does of an opening
@@ -101,6 +108,11 @@ abbrev pub stands_for_closing : BookRefusal → Group → Bool
 stands_for_closing refused.NoYearEnd group = test_of refused.NoYearEnd group.phase
 stands_for_closing other group = false
 
+-- so it does of asking for a record
+abbrev pub stands_for_member : BookRefusal → (place : ℕ) → Group → Bool
+stands_for_member refused.Place place group = test_of refused.Place place group
+stands_for_member other place group = false
+
 -- a refused entry is one of which the test of the refusal holds, and of an accepted one none does
 pub record EntriesStandByTests : Type 0 where
   pub refused :
@@ -113,11 +125,13 @@ pub record EntriesStandByTests : Type 0 where
 -- so it is of an opening
 pub record OpeningsStandByTests : Type 0 where
   pub refused :
-      (number start holder : ℕ) (records : List OpeningRecord) (group : Group) (refusal : BookRefusal)
+      (number start holder : ℕ) (records : List OpeningRecord)
+      (group : Group) (refusal : BookRefusal)
       → after_opening number start holder records group ≡ Err refusal
       → stands_for_opening refusal start holder records group ≡ true
   pub accepted :
-      (number start holder : ℕ) (records : List OpeningRecord) (old new : Group) (refusal : BookRefusal)
+      (number start holder : ℕ) (records : List OpeningRecord)
+      (old new : Group) (refusal : BookRefusal)
       → after_opening number start holder records old ≡ Ok new
       → stands_for_opening refusal start holder records old ≡ false
 
@@ -146,7 +160,7 @@ pub record IssuesStandByTests : Type 0 where
       → issue_result share prices stamp places group ≡ Ok issued
       → stands_for_issue refusal stamp places group ≡ false
 
--- so it is of the closing of a year
+-- so it is of the closing of a year, and asking for its figures is refused just so
 pub record ClosingsStandByTests : Type 0 where
   pub refused :
       (prices : ℕ → Prices) (group : Group) (refusal : BookRefusal)
@@ -154,3 +168,15 @@ pub record ClosingsStandByTests : Type 0 where
   pub accepted :
       (prices : ℕ → Prices) (group : Group) (refusal : BookRefusal) (closed : YearEnd × Group)
       → closing_result prices group ≡ Ok closed → stands_for_closing refusal group ≡ false
+  pub previewed :
+      (prices : ℕ → Prices) (group : Group) (refusal : BookRefusal)
+      → preview_result prices group ≡ Err refusal → stands_for_closing refusal group ≡ true
+
+-- so it is of asking for a record
+pub record MembersStandByTests : Type 0 where
+  pub refused :
+      (place : ℕ) (group : Group) (refusal : BookRefusal)
+      → member_at place group ≡ Err refusal → stands_for_member refusal place group ≡ true
+  pub accepted :
+      (place : ℕ) (group : Group) (refusal : BookRefusal) (member : Member)
+      → member_at place group ≡ Ok member → stands_for_member refusal place group ≡ false

@@ -8,4 +8,5 @@ returns c = record {
   drawings = standing.drawings;
   issues = standing.issues;
   closings = standing.closings;
+  members = standing.members;
 }
