@@ -61,6 +61,13 @@ fn a_text_is_cut_into_three_fields(rt: HostRuntime) {
     }
 }
 
+#[test]
+fn no_text_is_cut_into_no_field(rt: HostRuntime) {
+    for text in [b"".as_slice(), b"a", b"a,b"] {
+        assert!(rt; cut_into(text, &mut []).is_none());
+    }
+}
+
 const NUMBERS: [(&[u8], Option<u64>, Option<i64>); 9] = [
     (b"0", Some(0), Some(0)),
     (b"65535", Some(65_535), Some(65_535)),
