@@ -60,7 +60,7 @@ unfolding bill_of
 line_charges price member supplies = refl
 
 -- the bill has what the member is billed
-pub line_billed : (zone : Zone) (price : Prices) (member : Member) (day night : Supply) → in_zone (bill_of price member (record { day = day; night = night })).billed zone ≡ (in_zone (record { day = day; night = night }) zone).billed
+pub bill_billed : (zone : Zone) (price : Prices) (member : Member) (day night : Supply) → in_zone (bill_of price member (record { day = day; night = night })).billed zone ≡ (in_zone (record { day = day; night = night }) zone).billed
 unfolding bill_of
-line_billed Day price member day night = refl
-line_billed Night price member day night = refl
+bill_billed Day price member day night = refl
+bill_billed Night price member day night = refl

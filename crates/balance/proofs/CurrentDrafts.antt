@@ -5,19 +5,19 @@ use Rattle.ledger.specs.declared.bill.Bill.{Bill}
 use Rattle.ledger.specs.declared.bill.YearEnd.{YearEnd}
 use Rattle.ledger.specs.declared.entry.Entry.{Entry}
 use Rattle.group.proofs.Stepping.{and_then_ok, made_ok}
-use Rattle.group.specs.Groups.{entry_result, opening_group}
+use Rattle.group.specs.Groups.{entry_result, opening_result}
 use Rattle.group.specs.declared.group.Group.{Group}
 use Rattle.group.specs.declared.group.Phase.{Phase}
 use Rattle.group.specs.declared.group.Phase.TheVariants.{Blank, Open, YearEnd as AtYearEnd, Over}
 use Rattle.group.specs.declared.refusal.BookRefusal.TheVariants as refused
-use Rattle.group.specs.Books.{opening_phase}
+use Rattle.group.specs.Books.{blank_check}
 use Rattle.group.specs.Drafts.{Stamp, drawing_month, drawing_result, is_current, issue_result, next_phase, stamp_of}
 use Rattle.group.specs.Entries.{after_entry, open_month, place_of, recorded_member}
 use Rattle.group.specs.Months.{Prices, Share, bills_of}
 use Rattle.group.specs.Years.{after_year, next_year, open_year, year_figures}
 use Rattle.balance.proofs.Entries.{altered_found}
 use Rattle.balance.proofs.Theorem.{ended_in, issued_is, opened_in}
-use Rattle.balance.specs.CurrentDrafts.{DraftsByCall, DraftsByHistory}
+use Rattle.balance.specs.CurrentDrafts.{DraftsStayByCall, DraftsStayByHistory}
 use Rattle.balance.specs.Histories.{Event, Opening, Entering, Drawing, Checking, Issuing, Withdrawing, Closing, Happens, Leads}
 use Rattle.balance.specs.Postings.{accepted_call, accepted_calls}
 
@@ -132,7 +132,7 @@ drawn_now share prices places group stamp bills is =
     let stamped_is : stamp_of month group ≡ stamp = ap (λ (p : Stamp × List Bill). p.0) same in
     subst (λ s. is_current group s ≡ true) stamped_is (stamped_current group.phase month group phase)
 
-unopened_blank : (phase : Phase) (done : Unit {0}) → opening_phase phase ≡ Ok done → phase ≡ Blank
+unopened_blank : (phase : Phase) (done : Unit {0}) → blank_check phase ≡ Ok done → phase ≡ Blank
 unopened_blank Blank done is = refl
 unopened_blank (Open m) done is = absurd cc
 unopened_blank (AtYearEnd d) done is = absurd cc
@@ -181,7 +181,7 @@ QuietOrPast event old new =
 
 after_call : (share : Share) (prices : ℕ → Prices) (old : Group) (event : Event) (new : Group) → Happens share prices old event new → QuietOrPast event old new
 after_call share prices old (Opening number start holder records (Ok done)) new happens =
-    let (fresh, is, opens) = and_then_ok (opening_phase old.phase) (λ (d : Unit {0}). opening_group number start holder records) new happens in
+    let (fresh, is, opens) = and_then_ok (blank_check old.phase) (λ (d : Unit {0}). opening_result number start holder records) new happens in
     inr (λ none. absurd cc, λ stamp since. absurd (none_of_blank old stamp (unopened_blank old.phase fresh is) since))
 after_call share prices old (Opening number start holder records (Err refusal)) new happens = inl (refl, happens.1)
 after_call share prices old (Entering entry (Ok done)) new happens = inr (λ none. absurd cc, λ stamp since. entry_past entry old new stamp happens (since_entry old stamp since))
@@ -228,7 +228,7 @@ since_drawn share prices earlier (event ∷ later) places stamp bills group (bef
 stale_is : (group : Group) (stamp : Stamp) → Past stamp group.phase group.entries → is_current group stamp ≡ false
 stale_is group stamp past = past_stale group.phase group stamp past
 
-pub drafts_by_history : DraftsByHistory
+pub drafts_by_history : DraftsStayByHistory
 drafts_by_history share prices earlier later places stamp bills group leads =
     let since = since_drawn share prices earlier later places stamp bills group leads in (
       λ current. ⊎_elim (λ h. h.0) (λ h. let e : true ≡ false = sym current ∙ stale_is group stamp h.1 in absurd cc) since,
@@ -250,7 +250,7 @@ none_of_another Over group stamp other = refl
 quiet_leaves : (event : Event) (old new : Group) (stamp : Stamp) → accepted_call event ≡ [] → QuietOrPast event old new → is_current new stamp ≡ is_current old stamp
 quiet_leaves event old new stamp none now = ⊎_elim (λ quiet. ap (λ g. is_current g stamp) quiet.1) (λ loud. absurd (loud.0 none)) now
 
-pub drafts_by_call : DraftsByCall
+pub drafts_by_call : DraftsStayByCall
 drafts_by_call = record {
   drawn_now = drawn_now;
   by_entry = λ entry old new stamp is current. stale_is new stamp (entry_past entry old new stamp is (since_entry old stamp (inl current)));

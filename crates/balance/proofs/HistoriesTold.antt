@@ -9,10 +9,10 @@ use Rattle.ledger.specs.declared.entry.Entry.TheVariants.{Reading, Change, Corre
 use Rattle.ledger.specs.declared.entry.MemberRegister.{MemberRegister}
 use Rattle.ledger.specs.declared.zone.ByZone.{ByZone}
 use Rattle.group.proofs.Stepping.{and_then_ok, made_ok}
-use Rattle.group.specs.Books.{opening_phase}
+use Rattle.group.specs.Books.{blank_check}
 use Rattle.group.specs.Drafts.{after_month}
 use Rattle.group.specs.Entries.{open_month, place_of, recorded_member}
-use Rattle.group.specs.Groups.{entry_result, blank, entry_group, members_of, opening_group, opening_check}
+use Rattle.group.specs.Groups.{entry_result, blank, entry_group, members_of, opening_result, opening_check}
 use Rattle.group.specs.Members.{nobody, on_account, on_register, opened_member, register_at, with_register}
 use Rattle.group.specs.Months.{Prices, Share, billed_member, by_place, supplies_at}
 use Rattle.group.specs.Payments.{with_payment}
@@ -28,7 +28,7 @@ use Rattle.balance.proofs.Entries.{altered_found}
 use Rattle.balance.proofs.Theorem.{issued_is}
 use Rattle.balance.specs.Histories.{Event, Opening, Entering, Drawing, Checking, Issuing, Withdrawing, Closing, Happens, Leads}
 use Rattle.balance.specs.Postings.{AcceptedCall, Entered, Issued, Opened, YearPaid, accepted_call, accepted_calls}
-use Rattle.balance.specs.Told.{EntriesAreCounted, TermsStay, entries_since, opening_terms, records_in, terms}
+use Rattle.balance.specs.Told.{EntriesAreCounted, CapacitiesAndClassesStay, entries_since, opening_capacity_and_class, records_in, capacity_and_class}
 
 -- one element is replaced by one of which the same is told
 told_after_set : {A B : Type 0} (f : A → B) (xs : List A) (i : ℕ) (y d : A) → f y ≡ f (get_or xs i d) → map f (set xs i y) ≡ map f xs
@@ -46,25 +46,25 @@ told_by_place : {A B : Type 0} (f : A → B) (g : ℕ → A → A) → ((place :
 told_by_place f g same first [] = refl
 told_by_place f g same first (x ∷ xs) = ap₂ (λ z l. z ∷ l) (same first x) (told_by_place f g same (first + 1) xs)
 
-told_of_opened : (records : List OpeningRecord) → map terms (map opened_member records) ≡ map opening_terms records
+told_of_opened : (records : List OpeningRecord) → map capacity_and_class (map opened_member records) ≡ map opening_capacity_and_class records
 told_of_opened [] = refl
-told_of_opened (record' ∷ records) = ap (λ l. opening_terms record' ∷ l) (told_of_opened records)
+told_of_opened (record' ∷ records) = ap (λ l. opening_capacity_and_class record' ∷ l) (told_of_opened records)
 
-billed_terms : (price : Prices) (member : Member) (supplies : ByZone Supply) → terms (billed_member price member supplies) ≡ terms member
+billed_terms : (price : Prices) (member : Member) (supplies : ByZone Supply) → capacity_and_class (billed_member price member supplies) ≡ capacity_and_class member
 unfolding billed_member
 billed_terms price member supplies = refl
 
-on_register_terms : (at : MemberRegister) (step : Register → Result Register BookRefusal) (member changed : Member) → on_register at step member ≡ Ok changed → terms changed ≡ terms member
+on_register_terms : (at : MemberRegister) (step : Register → Result Register BookRefusal) (member changed : Member) → on_register at step member ≡ Ok changed → capacity_and_class changed ≡ capacity_and_class member
 on_register_terms at step member changed is =
     let (register, took, becomes) = made_ok (λ (r : Register). with_register at r member) (step (register_at at member)) changed is in
-    ap terms (sym becomes)
+    ap capacity_and_class (sym becomes)
 
-on_account_terms : (step : Account → Result Account BookRefusal) (member changed : Member) → on_account step member ≡ Ok changed → terms changed ≡ terms member
+on_account_terms : (step : Account → Result Account BookRefusal) (member changed : Member) → on_account step member ≡ Ok changed → capacity_and_class changed ≡ capacity_and_class member
 on_account_terms step member changed is =
     let (account, took, becomes) = made_ok (λ (a : Account). record member { account = a }) (step member.account) changed is in
-    ap terms (sym becomes)
+    ap capacity_and_class (sym becomes)
 
-recorded_terms : (month : ℕ) (entry : Entry) (member changed : Member) → recorded_member month entry member ≡ Ok changed → terms changed ≡ terms member
+recorded_terms : (month : ℕ) (entry : Entry) (member changed : Member) → recorded_member month entry member ≡ Ok changed → capacity_and_class changed ≡ capacity_and_class member
 recorded_terms month (Reading at day value) member changed is = on_register_terms at (with_reading month day value value) member changed is
 recorded_terms month (Change at day value start) member changed is = on_register_terms at (with_reading month day value start) member changed is
 recorded_terms month (Correction at kwh) member changed is = on_register_terms at (with_correction kwh) member changed is
@@ -80,7 +80,7 @@ record Steps (share : Share) (prices : ℕ → Prices) (P : List AcceptedCall �
 
 after_call : (share : Share) (prices : ℕ → Prices) (P : List AcceptedCall → Group → Type 0) → Steps share prices P → (posts : List AcceptedCall) (old : Group) (event : Event) (new : Group) → P posts old → Happens share prices old event new → P (accepted_call event ++ posts) new
 after_call share prices P steps posts old (Opening number start holder records (Ok done)) new was happens =
-    let (fresh, is, opens) = and_then_ok (opening_phase old.phase) (λ (d : Unit {0}). opening_group number start holder records) new happens in
+    let (fresh, is, opens) = and_then_ok (blank_check old.phase) (λ (d : Unit {0}). opening_result number start holder records) new happens in
     let (goes, may, same) = made_ok (λ (d : Unit {0}). record blank { number = number; holder = holder; members = record { items = members_of records }; phase = Open start }) (opening_check start holder records) new opens in
     subst (λ g. P (Opened start holder records ∷ posts) g) same (steps.opens posts number start holder records)
 after_call share prices P steps posts old (Opening number start holder records (Err refusal)) new was happens = subst (λ g. P posts g) (sym happens.1) was
@@ -116,15 +116,15 @@ entries_are_counted share prices history group leads = over_history share prices
   closes = λ posts old december figures was. was;
 }) history group leads
 
-pub terms_stay : TermsStay
-terms_stay share prices history group leads = over_history share prices (λ posts g. map terms g.members.items ≡ map opening_terms (records_in posts)) (record {
+pub terms_stay : CapacitiesAndClassesStay
+terms_stay share prices history group leads = over_history share prices (λ posts g. map capacity_and_class g.members.items ≡ map opening_capacity_and_class (records_in posts)) (record {
   at_first = refl;
   opens = λ posts number start holder records. told_of_opened records;
-  enters = λ posts old month entry member changed was found stepped. told_of_found terms old.members.items (place_of entry) member changed found (recorded_terms month entry member changed stepped) ∙ was;
+  enters = λ posts old month entry member changed was found stepped. told_of_found capacity_and_class old.members.items (place_of entry) member changed found (recorded_terms month entry member changed stepped) ∙ was;
   issues = λ posts old month bills was.
       let f = λ (place : ℕ) (member : Member). billed_member (prices month) member (supplies_at share old place) in
-      told_by_place terms f (λ place member. billed_terms (prices month) member (supplies_at share old place)) 0 old.members.items ∙ was;
+      told_by_place capacity_and_class f (λ place member. billed_terms (prices month) member (supplies_at share old place)) 0 old.members.items ∙ was;
   closes = λ posts old december figures was.
       let holder : Member = record (holder_of old) { account = credited_account (prices december) old } in
-      told_after_set terms old.members.items old.holder holder nobody refl ∙ was;
+      told_after_set capacity_and_class old.members.items old.holder holder nobody refl ∙ was;
 }) history group leads

@@ -20,7 +20,7 @@ use Rattle.group.specs.Months.{KeepsSharingLaw, Prices, Share, bill_of, billed_m
 use Rattle.balance.proofs.Bills.{billed_class, billed_stands, billed_tally, billed_worth, line_charges}
 use Rattle.balance.proofs.Found.{by_place_at, found_by_place, sum_of}
 use Rattle.balance.proofs.Kept.{Kept, MonthKept}
-use Rattle.balance.proofs.Nets.{lines_billed, nets_of_tallies, zone_balances}
+use Rattle.balance.proofs.Nets.{bills_billed, nets_of_tallies, zone_balances}
 use Rattle.balance.proofs.Slots.{tally_in}
 use Rattle.balance.specs.Postings.{Issued, AcceptedCall, charge, class_at, month_after, prices_for}
 
@@ -65,7 +65,7 @@ issue_kept share keeps prices posted old month kept opened =
           let nets = nets_of_tallies zone members in
           let consumed = kept.tallies zone Consumed in
           let delivered = kept.tallies zone Delivered in
-          let is_billed = lines_billed share zone price old in
+          let is_billed = bills_billed share zone price old in
           let carries = carried_is share zone old in
           omega (arith, ints, before, moved, nets, consumed, delivered, is_billed, carries);
       money = λ place m there.

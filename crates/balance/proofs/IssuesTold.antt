@@ -37,10 +37,10 @@ unfolding bill_of
 line_covered share Day price group place member = refl
 line_covered share Night price group place member = refl
 
-line_billed : (share : Share) (zone : Zone) (price : Prices) (group : Group) (place : ℕ) (member : Member) → in_zone (bill_of price member (supplies_at share group place)).billed zone ≡ get_or (billed_in share zone group) place 0
+bill_billed : (share : Share) (zone : Zone) (price : Prices) (group : Group) (place : ℕ) (member : Member) → in_zone (bill_of price member (supplies_at share group place)).billed zone ≡ get_or (billed_in share zone group) place 0
 unfolding bill_of
-line_billed share Day price group place member = refl
-line_billed share Night price group place member = refl
+bill_billed share Day price group place member = refl
+bill_billed share Night price group place member = refl
 
 needs_length : (zone : Zone) (group : Group) → length (needs_of (nets_in zone group)) ≡ size group
 needs_length zone group = length-map (nets_in zone group) need ∙ length-map group.members.items (net_in zone)
@@ -55,7 +55,7 @@ line_supplies share keeps zone price group place member =
     let law = keeps (pool_in zone group) needs in
     let rest = get_or_less needs (covered_in share zone group) place in
     let within = law.within place in
-    let is_billed = line_billed share zone price group place member in
+    let is_billed = bill_billed share zone price group place member in
     let covers = line_covered share zone price group place member in
     omega (arith, rest, within, is_billed, covers)
 

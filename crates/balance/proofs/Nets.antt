@@ -14,7 +14,7 @@ use Rattle.group.specs.declared.group.Group.{Group}
 use Rattle.group.specs.declared.member.Member.{Member}
 use Rattle.group.proofs.MonthsSound.{billed_length}
 use Rattle.group.specs.Months.{KeepsSharingLaw, Share, Prices, bill_of, billed_in, by_place, carried_in, bills_of, net_in, nets_in, nets_of, pool_in, supplies_at}
-use Rattle.balance.proofs.Bills.{line_billed}
+use Rattle.balance.proofs.Bills.{bill_billed}
 use Rattle.balance.proofs.Found.{sum_of}
 use Rattle.balance.proofs.Slots.{tally_in}
 use Rattle.balance.specs.Postings.{kwh_billed_by}
@@ -64,21 +64,21 @@ zone_not_both share keeps zone group =
     ⊎_elim (λ short. inr (omega (arith, law.whole, short))) (λ enough. inl (omega (arith, law.whole, rest, enough))) (cases_lt pool (sum needs))
 
 -- the bills bill just what the zone bills
-lines_bill : (zone : Zone) (price : Prices) (supply : ℕ → ByZone Supply) (is_billed : List ℕ) → ((place : ℕ) → (in_zone (supply place) zone).billed ≡ get_or is_billed place 0) → (first : ℕ) (members : List Member) → first + length members ≡ length is_billed → kwh_billed_by zone (by_place (λ place member. bill_of price member (supply place)) first members) ≡ sum (drop first is_billed)
-lines_bill zone price supply is_billed told first [] all = sym (ap sum (drop_of_length-le is_billed (omega arith)))
-lines_bill zone price supply is_billed told first (m ∷ ms) all =
+bills_bill : (zone : Zone) (price : Prices) (supply : ℕ → ByZone Supply) (billed : List ℕ) → ((place : ℕ) → (in_zone (supply place) zone).billed ≡ get_or billed place 0) → (first : ℕ) (members : List Member) → first + length members ≡ length billed → kwh_billed_by zone (by_place (λ place member. bill_of price member (supply place)) first members) ≡ sum (drop first billed)
+bills_bill zone price supply billed told first [] all = sym (ap sum (drop_of_length-le billed (omega arith)))
+bills_bill zone price supply billed told first (m ∷ ms) all =
     let f = λ (place : ℕ) (member : Member). bill_of price member (supply place) in
-    let rest = lines_bill zone price supply is_billed told (first + 1) ms (omega arith) in
-    let own = line_billed zone price m (supply first).day (supply first).night ∙ told first in
-    let inside : first < length is_billed = omega arith in
-    let front = ap sum (drop-cons is_billed first 0 inside) ∙ sum_cons (get_or is_billed first 0) (drop (suc first) is_billed) in
+    let rest = bills_bill zone price supply billed told (first + 1) ms (omega arith) in
+    let own = bill_billed zone price m (supply first).day (supply first).night ∙ told first in
+    let inside : first < length billed = omega arith in
+    let front = ap sum (drop-cons billed first 0 inside) ∙ sum_cons (get_or billed first 0) (drop (suc first) billed) in
     let bills = sum_cons (in_zone (f first m).billed zone) (map (λ bill. in_zone bill.billed zone) (by_place f (first + 1) ms)) in
-    let next : sum (drop (first + 1) is_billed) ≡ sum (drop (suc first) is_billed) = ap (λ n. sum (drop n is_billed)) (add-one first) in
+    let next : sum (drop (first + 1) billed) ≡ sum (drop (suc first) billed) = ap (λ n. sum (drop n billed)) (add-one first) in
     omega (arith, rest, own, front, bills, next)
 
 supplied : (share : Share) (zone : Zone) (group : Group) (place : ℕ) → (in_zone (supplies_at share group place) zone).billed ≡ get_or (billed_in share zone group) place 0
 supplied share Day group place = refl
 supplied share Night group place = refl
 
-pub lines_billed : (share : Share) (zone : Zone) (price : Prices) (group : Group) → kwh_billed_by zone (bills_of share price group) ≡ sum (billed_in share zone group)
-lines_billed share zone price group = lines_bill zone price (λ place. supplies_at share group place) (billed_in share zone group) (supplied share zone group) 0 group.members.items (omega (arith, billed_length share zone group))
+pub bills_billed : (share : Share) (zone : Zone) (price : Prices) (group : Group) → kwh_billed_by zone (bills_of share price group) ≡ sum (billed_in share zone group)
+bills_billed share zone price group = bills_bill zone price (λ place. supplies_at share group place) (billed_in share zone group) (supplied share zone group) 0 group.members.items (omega (arith, billed_length share zone group))

@@ -8,7 +8,7 @@ use Rattle.ledger.specs.declared.zone.Flow.TheVariants.{Consumed, Delivered}
 use Rattle.ledger.specs.declared.zone.Zone.{Zone}
 use Rattle.ledger.specs.declared.zone.Zone.TheVariants.{Day, Night}
 use Rattle.group.proofs.Stepping.{made_ok}
-use Rattle.group.specs.Groups.{blank, members_of, opening_group, opening_check}
+use Rattle.group.specs.Groups.{blank, members_of, opening_result, opening_check}
 use Rattle.group.specs.Members.{class_of, opened_member, register_at, standing_at}
 use Rattle.group.specs.declared.group.Group.{Group}
 use Rattle.group.specs.declared.group.Phase.TheVariants.{Open}
@@ -42,7 +42,7 @@ energy_opens : (zone : Zone) (start holder : ℕ) (records : List OpeningRecord)
 energy_opens Day start holder records group none = rw none (omega (arith, ints))
 energy_opens Night start holder records group none = rw none (omega (arith, ints))
 
-pub opening_kept : (prices : ℕ → Prices) (number start holder : ℕ) (records : List OpeningRecord) (new : Group) → opening_group number start holder records ≡ Ok new → Kept prices (Opened start holder records ∷ []) new
+pub opening_kept : (prices : ℕ → Prices) (number start holder : ℕ) (records : List OpeningRecord) (new : Group) → opening_result number start holder records ≡ Ok new → Kept prices (Opened start holder records ∷ []) new
 opening_kept prices number start holder records new is =
     let (done, goes, same) = made_ok (λ (done : Unit {0}). record blank { number = number; holder = holder; members = record { items = members_of records }; phase = Open start }) (opening_check start holder records) new is in
     subst (λ g. Kept prices (Opened start holder records ∷ []) g) same (record {

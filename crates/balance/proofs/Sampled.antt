@@ -12,9 +12,9 @@ use Rattle.balance.proofs.WholeRuns.{run_leads}
 use Rattle.balance.proofs.Theorem.{throughout}
 use Rattle.balance.specs.Balances.{IsBalancedThroughout}
 use Rattle.balance.specs.Runs.{run}
-use Rattle.balance.specs.Sample.{SampleTells, closed_group, december, december_bills, november_bills, november, sample_prices, sample_result}
+use Rattle.balance.specs.Sample.{SampleTells, closed_group, december, december_bill, november_bill, november, sample_prices, sample_history}
 
-sample_is : (run line_order sample_prices (november ++ december)).0 ≡ sample_result (november_bills 510 33) (december_bills 0)
+sample_is : (run line_order sample_prices (november ++ december)).0 ≡ sample_history (november_bill 510 33) (december_bill 0)
 unfolding quantity bill_of billed_member year_figures
 sample_is = refl
 

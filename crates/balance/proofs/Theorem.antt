@@ -7,12 +7,12 @@ use Rattle.ledger.specs.declared.bill.YearEnd.{YearEnd}
 use Rattle.ledger.specs.declared.zone.Zone.{Zone}
 use Rattle.ledger.specs.declared.zone.Zone.TheVariants.{Day, Night}
 use Rattle.group.proofs.Stepping.{and_then_ok, made_ok, ok_or_ok}
-use Rattle.group.specs.Groups.{entry_result, blank, opening_group}
+use Rattle.group.specs.Groups.{entry_result, blank, opening_result}
 use Rattle.group.specs.declared.group.Group.{Group}
 use Rattle.group.specs.declared.group.Phase.{Phase}
 use Rattle.group.specs.declared.group.Phase.TheVariants.{Blank, Open, YearEnd as AtYearEnd, Over}
 use Rattle.group.specs.declared.refusal.BookRefusal.TheVariants as refused
-use Rattle.group.specs.Books.{KeepsTerms, BookState, opening_phase}
+use Rattle.group.specs.Books.{KeepsTerms, BookState, blank_check}
 use Rattle.group.specs.Drafts.{Stamp, after_month, drawing_month, is_current, issue_result}
 use Rattle.group.specs.Entries.{open_month, place_of, recorded_member}
 use Rattle.group.specs.Months.{KeepsSharingLaw, Prices, Share, billed_in, carried_in, bills_of}
@@ -20,7 +20,7 @@ use Rattle.group.specs.Years.{after_year, open_year, year_figures}
 use Rattle.balance.proofs.Entries.{entry_kept}
 use Rattle.balance.proofs.Issues.{carried_is, issue_kept}
 use Rattle.balance.proofs.Kept.{Kept, MonthKept}
-use Rattle.balance.proofs.Nets.{lines_billed, zone_not_both}
+use Rattle.balance.proofs.Nets.{bills_billed, zone_not_both}
 use Rattle.balance.proofs.Openings.{opening_kept}
 use Rattle.balance.proofs.Years.{year_kept}
 use Rattle.balance.specs.Balances.{IsBalanced, IsBalancedThroughout, BeginsBalanced, EnergyBalances, GoesOnBalanced, DoesNotBillAndCarry}
@@ -40,7 +40,7 @@ ended_in (Open m) december is = absurd cc
 ended_in (AtYearEnd d) december is = ap AtYearEnd cc
 ended_in Over december is = absurd cc
 
-nothing_posted : (phase : Phase) (done : Unit {0}) (posts : List AcceptedCall) → opening_phase phase ≡ Ok done → MonthKept phase posts → posts ≡ []
+nothing_posted : (phase : Phase) (done : Unit {0}) (posts : List AcceptedCall) → blank_check phase ≡ Ok done → MonthKept phase posts → posts ≡ []
 nothing_posted Blank done posts is kept = kept
 nothing_posted (Open m) done posts is kept = absurd cc
 nothing_posted (AtYearEnd d) done posts is kept = absurd cc
@@ -63,7 +63,7 @@ issued_is share prices stamp places old new bills is =
 
 pub happens_kept : (share : Share) → KeepsSharingLaw share → (prices : ℕ → Prices) (posts : List AcceptedCall) (old : Group) (event : Event) (new : Group) → Kept prices posts old → Happens share prices old event new → Kept prices (accepted_call event ++ posts) new
 happens_kept share keeps prices posts old (Opening number start holder records (Ok done)) new kept happens =
-    let (fresh, is, opens) = and_then_ok (opening_phase old.phase) (λ (d : Unit {0}). opening_group number start holder records) new happens in
+    let (fresh, is, opens) = and_then_ok (blank_check old.phase) (λ (d : Unit {0}). opening_result number start holder records) new happens in
     rw (nothing_posted old.phase fresh posts is kept.month) (opening_kept prices number start holder records new opens)
 happens_kept share keeps prices posts old (Opening number start holder records (Err refusal)) new kept happens = subst (λ g. Kept prices posts g) (sym happens.1) kept
 happens_kept share keeps prices posts old (Entering entry (Ok done)) new kept happens =
@@ -106,7 +106,7 @@ led_kept share keeps prices (event ∷ history) group (before, leads, happens) =
 issue_not_both : (share : Share) → KeepsSharingLaw share → (prices : ℕ → Prices) (stamp : Stamp) (places : ℕ) (old new : Group) (bills : List Bill) → issue_result share prices stamp places old ≡ Ok (bills, new) → (zone : Zone) → (kwh_billed_by zone bills ≡ 0) ⊎ (in_zone new.carried zone ≡ 0)
 issue_not_both share keeps prices stamp places old new bills is zone =
     let (month, opens, writes, becomes) = issued_is share prices stamp places old new bills is in
-    let is_billed : kwh_billed_by zone bills ≡ sum (billed_in share zone old) = ap (kwh_billed_by zone) (sym writes) ∙ lines_billed share zone (prices month) old in
+    let is_billed : kwh_billed_by zone bills ≡ sum (billed_in share zone old) = ap (kwh_billed_by zone) (sym writes) ∙ bills_billed share zone (prices month) old in
     let carries : in_zone new.carried zone ≡ carried_in share zone old = ap (λ (g : Group). in_zone g.carried zone) (sym becomes) ∙ carried_is share zone old in
     ⊎_elim (λ none. inl (is_billed ∙ none)) (λ none. inr (carries ∙ none)) (zone_not_both share keeps zone old)
 

@@ -32,14 +32,14 @@ IssuesEndDrafts =
     → is_current old stamp ≡ true → is_current new stamp ≡ false
 
 -- in another phase than an open month none is current
-abbrev pub NoneOutOfAMonth : Type 0
-NoneOutOfAMonth =
+abbrev pub NoneIsCurrentOutOfAMonth : Type 0
+NoneIsCurrentOutOfAMonth =
     (group : Group) (stamp : Stamp)
     → ((month : ℕ) → group.phase ≢ Open month) → is_current group stamp ≡ false
 
 -- none is that has the number of another group
-abbrev pub NoneOfAnotherGroup : Type 0
-NoneOfAnotherGroup =
+abbrev pub NoneOfAnotherGroupIsCurrent : Type 0
+NoneOfAnotherGroupIsCurrent =
     (group : Group) (stamp : Stamp) → stamp.number ≢ group.number → is_current group stamp ≡ false
 
 -- a call that posts nothing, as a refused one, leaves a draft as current as it was
@@ -51,17 +51,17 @@ QuietCallsLeaveDrafts =
     → is_current new stamp ≡ is_current old stamp
 
 -- when a draft is current, by the call that is made
-pub record DraftsByCall : Type 0 where
+pub record DraftsStayByCall : Type 0 where
   pub drawn_now : DrawnNowIsCurrent
   pub by_entry : EntriesEndDrafts
   pub by_issue : IssuesEndDrafts
-  pub out_of_a_month : NoneOutOfAMonth
-  pub of_another_group : NoneOfAnotherGroup
+  pub out_of_a_month : NoneIsCurrentOutOfAMonth
+  pub of_another_group : NoneOfAnotherGroupIsCurrent
   pub by_quiet_call : QuietCallsLeaveDrafts
 
 -- and over whole histories: a draft is current just where the history posts nothing after its drawing
-abbrev pub DraftsByHistory : Type 0
-DraftsByHistory =
+abbrev pub DraftsStayByHistory : Type 0
+DraftsStayByHistory =
     (share : Share) (prices : ℕ → Prices) (earlier later : List Event)
     (places : ℕ) (stamp : Stamp) (bills : List Bill) (group : Group)
     → Leads share prices (later ++ Drawing places (Ok (stamp, bills)) ∷ earlier) group

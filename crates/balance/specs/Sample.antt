@@ -121,12 +121,12 @@ nothing = bill (kwh 0 0) (kwh 0 0) (pos 0) (pos 0)
 
 -- the household's November, with so many kWh covered by day and billed by night: of 510 kWh by day all are covered by 1,200, and 33 by night are billed;
 -- 510 × 10.00 + 33 × 35.07 drams are 6,257.31, of which 1,000 were paid before
-abbrev pub november_bills : (covered billed : ℕ) → Bill
-november_bills covered billed = bill (kwh 0 billed) (kwh covered 0) (pos 6257) (pos 5257)
+abbrev pub november_bill : (covered billed : ℕ) → Bill
+november_bill covered billed = bill (kwh 0 billed) (kwh covered 0) (pos 6257) (pos 5257)
 
 -- the same before they were paid
 abbrev unpaid : Bill
-unpaid = record (november_bills 510 33) { debt = pos 6257 }
+unpaid = record (november_bill 510 33) { debt = pos 6257 }
 
 -- the vulnerable member's November: 300 kWh by day are covered, which leaves 390 of the 1,200, and 28 by night are billed;
 -- 300 × 6.50 + 28 × 25.03 drams are 2,650.84
@@ -136,8 +136,8 @@ vulnerable_november = bill (kwh 0 28) (kwh 300 0) (pos 2650) (pos 2650)
 -- the household's December, with so many kWh billed by day: of 200 kWh by day all are covered by the 390 that were carried;
 -- of 10 by night 3 are covered by those of the negative consumption, and 7 are billed;
 -- 203 × 10.05 + 7 × 35.07 drams are 2,285.64, and 31 hundredths were kept
-abbrev pub december_bills : (billed : ℕ) → Bill
-december_bills billed = bill (kwh billed 7) (kwh 200 3) (pos 2285) (pos 7542)
+abbrev pub december_bill : (billed : ℕ) → Bill
+december_bill billed = bill (kwh billed 7) (kwh 200 3) (pos 2285) (pos 7542)
 
 -- the vulnerable member's December: 50 kWh by day are covered, which leaves 140 of the 390;
 -- 50 × 6.51 drams are 325.50, and 84 hundredths were kept
@@ -145,12 +145,12 @@ abbrev vulnerable_december : Bill
 vulnerable_december = bill (kwh 0 0) (kwh 50 0) (pos 326) (pos 2976)
 
 -- the holder is paid 140 × 20.01 drams, which are 2,801.40: the debt goes down by 2,802, and 60 hundredths are kept
-abbrev paid_bill : YearEnd
-paid_bill = record { paid = kwh 140 0; drams = negsuc 2801; debt = negsuc 2801 }
+abbrev paid_year : YearEnd
+paid_year = record { paid = kwh 140 0; drams = negsuc 2801; debt = negsuc 2801 }
 
 -- the history of November up to the first drawing, its latest call first
-abbrev entries_result : List Event
-entries_result =
+abbrev entries_history : List Event
+entries_history =
     Entering (Reading (register 2 Night Consumed) 308 40) (Ok tt)
     ∷ Entering (Reading (register 2 Day Consumed) 308 330) (Ok tt)
     ∷ Entering (Correction (register 1 Day Consumed) (pos 10)) (Ok tt)
@@ -162,8 +162,8 @@ entries_result =
     ∷ []
 
 -- that of the whole month, by the household's bill
-abbrev november_result : Bill → List Event
-november_result household =
+abbrev november_history : Bill → List Event
+november_history household =
     Issuing (stamp 10 7) 3 (Ok (nothing ∷ household ∷ vulnerable_november ∷ []))
     ∷ Checking (stamp 10 7) true
     ∷ Drawing 3 (Ok (stamp 10 7, nothing ∷ household ∷ vulnerable_november ∷ []))
@@ -171,23 +171,23 @@ november_result household =
     ∷ Entering (Reading (register 1 Night Consumed) 308 4) (Err Below)
     ∷ Entering (Payment 1 1000) (Ok tt)
     ∷ Drawing 3 (Ok (stamp 10 6, nothing ∷ unpaid ∷ vulnerable_november ∷ []))
-    ∷ entries_result
+    ∷ entries_history
 
 -- the history up to the issue of December, by the household's bill of each month
-abbrev december_result : (november december : Bill) → List Event
-december_result earlier later =
+abbrev december_history : (november december : Bill) → List Event
+december_history earlier later =
     Issuing (stamp 11 4) 3 (Ok (nothing ∷ later ∷ vulnerable_december ∷ []))
     ∷ Issuing (stamp 10 7) 3 (Err Draft)
     ∷ Entering (Correction (register 2 Night Consumed) (negsuc 2)) (Ok tt)
     ∷ Entering (Reading (register 2 Day Consumed) 341 380) (Ok tt)
     ∷ Entering (Reading (register 1 Night Consumed) 341 15) (Ok tt)
     ∷ Entering (Reading (register 1 Day Consumed) 340 720) (Ok tt)
-    ∷ november_result earlier
+    ∷ november_history earlier
 
 -- the whole history
-abbrev pub sample_result : (november december : Bill) → List Event
-sample_result earlier later =
-    Closing (Ok paid_bill) ∷ Withdrawing (stamp 10 6) ∷ december_result earlier later
+abbrev pub sample_history : (november december : Bill) → List Event
+sample_history earlier later =
+    Closing (Ok paid_year) ∷ Withdrawing (stamp 10 6) ∷ december_history earlier later
 
 -- the group after the issue of December
 abbrev issued_group : Group
@@ -207,18 +207,18 @@ account_at place group = result_map (λ member. member.account) (member_at place
 pub record SampleTells : Type 0 where
   pub history_is :
       (run line_order sample_prices (november ++ december)).0
-      ≡ sample_result (november_bills 510 33) (december_bills 0)
+      ≡ sample_history (november_bill 510 33) (december_bill 0)
   pub carries_nothing : closed_group.carried ≡ kwh 0 0
   pub holder_is_owed : account_at 0 closed_group ≡ Ok (record { debt = negsuc 2801; fraction = 60 })
   pub household_owes : account_at 1 closed_group ≡ Ok (record { debt = pos 7542; fraction = 95 })
   pub vulnerable_owes : account_at 2 closed_group ≡ Ok (record { debt = pos 2976; fraction = 34 })
   pub balances :
       IsBalancedThroughout line_order sample_prices
-      (sample_result (november_bills 510 33) (december_bills 0)) closed_group
+      (sample_history (november_bill 510 33) (december_bill 0)) closed_group
   pub no_kwh_more :
-      EnergyBalances Night (accepted_calls (sample_result (november_bills 510 34) (december_bills 0))) closed_group → ⊥
+      EnergyBalances Night (accepted_calls (sample_history (november_bill 510 34) (december_bill 0))) closed_group → ⊥
   pub no_hundredth_more :
       MoneyBalances sample_prices 1
-      (accepted_calls (sample_result (november_bills 511 33) (december_bills 0))) closed_group → ⊥
+      (accepted_calls (sample_history (november_bill 511 33) (december_bill 0))) closed_group → ⊥
   pub not_both :
-      DoesNotBillAndCarry Day (december_result (november_bills 510 33) (december_bills 1)) issued_group → ⊥
+      DoesNotBillAndCarry Day (december_history (november_bill 510 33) (december_bill 1)) issued_group → ⊥

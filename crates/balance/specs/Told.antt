@@ -23,12 +23,12 @@ records_in (Opened start holder records ∷ earlier) = records
 records_in (other ∷ earlier) = records_in earlier
 
 -- the capacity and the class of a member
-abbrev pub terms : Member → ℕ × Class
-terms member = (member.capacity, member.class)
+abbrev pub capacity_and_class : Member → ℕ × Class
+capacity_and_class member = (member.capacity, member.class)
 
 -- those of an opening record
-abbrev pub opening_terms : OpeningRecord → ℕ × Class
-opening_terms opening = (opening.capacity, opening.class)
+abbrev pub opening_capacity_and_class : OpeningRecord → ℕ × Class
+opening_capacity_and_class opening = (opening.capacity, opening.class)
 
 -- a group counts just the entries that were posted since the last issue
 abbrev pub EntriesAreCounted : Type 0
@@ -37,8 +37,8 @@ EntriesAreCounted =
     → Leads share prices history group → group.entries ≡ entries_since (accepted_calls history)
 
 -- a group has a member for each record that it opened with, of the same capacity and class
-abbrev pub TermsStay : Type 0
-TermsStay =
+abbrev pub CapacitiesAndClassesStay : Type 0
+CapacitiesAndClassesStay =
     (share : Share) (prices : ℕ → Prices) (history : List Event) (group : Group)
     → Leads share prices history group
-    → map terms group.members.items ≡ map opening_terms (records_in (accepted_calls history))
+    → map capacity_and_class group.members.items ≡ map opening_capacity_and_class (records_in (accepted_calls history))

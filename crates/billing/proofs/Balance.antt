@@ -1,4 +1,4 @@
--- Of what is shared by a fair rule no kWh is lost or invented.
+-- Of what is shared by a rule that keeps the law no kWh is lost or invented.
 use Rattle.std.proofs.Common.{◌≡◌, ℕ, zero, suc, ◌≤◌, List, [], ◌∷◌, length, get_or, ℤ, sum, refl, ap, ◌∙◌, ap₂, inl, inr, ⊎_elim, arith}
 use Rattle.std.proofs.lemmas.Bool.{cases_lt}
 use Rattle.sharing.specs.Law.{SharingLaw, less, plus}

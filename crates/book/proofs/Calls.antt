@@ -1,9 +1,9 @@
 -- What it says of a call that the book is in the phase for it.
 use Rattle.std.proofs.Common.{◌≡◌, ◌∙◌, ℕ, List, Bool, true, false, if◌then◌else◌, Ok, Err, refl, subst, sym}
 use Rattle.group.proofs.Stepping.{and_then_ok, made_ok}
-use Rattle.group.specs.Books.{after_opening, opening_phase}
+use Rattle.group.specs.Books.{after_opening, blank_check}
 use Rattle.group.specs.Drafts.{drawing_month}
-use Rattle.group.specs.Groups.{opening_group}
+use Rattle.group.specs.Groups.{opening_result}
 use Rattle.group.specs.declared.group.Group.{Group}
 use Rattle.group.specs.declared.member.OpeningRecord.{OpeningRecord}
 use Rattle.group.specs.declared.refusal.BookRefusal.TheVariants as refused
@@ -20,7 +20,7 @@ issue_goes places false group month is =
     absurd cc
 
 -- an opening in its phase opens the group in its start month
-pub opening_goes : (number start holder : ℕ) (records : List OpeningRecord) (group new : Group) (month : ℕ) → month_for (Open start) group ≡ Ok month → opening_group number month holder records ≡ Ok new → after_opening number start holder records group ≡ Ok new
+pub opening_goes : (number start holder : ℕ) (records : List OpeningRecord) (group new : Group) (month : ℕ) → month_for (Open start) group ≡ Ok month → opening_result number month holder records ≡ Ok new → after_opening number start holder records group ≡ Ok new
 opening_goes number start holder records group new month goes is =
-    let (done, fresh, same) = made_ok (λ (done : Unit {0}). start) (opening_phase group.phase) month goes in
-    rw fresh (subst (λ m. opening_group number m holder records ≡ Ok new) (sym same) is)
+    let (done, fresh, same) = made_ok (λ (done : Unit {0}). start) (blank_check group.phase) month goes in
+    rw fresh (subst (λ m. opening_result number m holder records ≡ Ok new) (sym same) is)

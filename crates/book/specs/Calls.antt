@@ -1,6 +1,6 @@
 -- The calls of a book by the phase that they ask for, and the month that each is for.
 use Rattle.std.specs.Prelude.{◌≡◌, ℕ, ◌≤◌, if◌then◌else◌, length, Ok, Err, Result}
-use Rattle.group.specs.Books.{opening_phase}
+use Rattle.group.specs.Books.{blank_check}
 use Rattle.group.specs.Drafts.{drawing_month}
 use Rattle.group.specs.Results.{and_then, result_map}
 use Rattle.group.specs.Years.{open_year}
@@ -13,7 +13,7 @@ use Rattle.book.specs.declared.call.Call.TheVariants.{Open, Draw, Issue, Close}
 
 -- the month that a call is for, or why the book is not in a phase for it
 abbrev pub month_for : Call → Group → Result ℕ BookRefusal
-month_for (Open start) group = result_map (λ done. start) (opening_phase group.phase)
+month_for (Open start) group = result_map (λ done. start) (blank_check group.phase)
 month_for (Draw places) group = drawing_month places group
 month_for (Issue places current) group =
     and_then (drawing_month places group) (λ month. if current then Ok month else Err refused.Draft)

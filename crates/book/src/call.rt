@@ -7,9 +7,9 @@ use calendar::Month;
 pub(crate) enum Call {
     // The opening, in a month.
     Open { start: Month },
-    // A drawing, with so many places for its lines.
+    // A drawing, with so many places for its bills.
     Draw { places: usize },
-    // An issue, with so many places for its lines, and whether its draft is current.
+    // An issue, with so many places for its bills, and whether its draft is current.
     Issue { places: usize, current: bool },
     // The closing of a year, or the question of what it would post.
     Close,

@@ -227,7 +227,7 @@ fn nothing_follows_the_last_year(rt: HostRuntime) {
     assert_eq!(rt; bills, [MARK; 2]);
 }
 
-// PriceTable from a month on: of the year end for households, and of energy by day for others.
+// Prices from a month on: of the year end for households, and of energy by day for others.
 fn row(first_month: Month, year_end: (u32, u32), energy: u32) -> ScheduleRow {
     let none = class_prices(0, 0, 0);
     let (day, night) = year_end;

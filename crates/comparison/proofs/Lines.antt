@@ -7,7 +7,7 @@ use Rattle.std.proofs.lemmas.List.Splits.{join_with_byte-slice_split, length-sli
 use Rattle.std.proofs.lemmas.List.Elements.{All-cons, All-get_or, All-head, All-nil, All-push, All-tail}
 use Rattle.fields.proofs.Lacking.{lacks_append, lacks_one}
 use Rattle.fields.specs.Cuts.{Lacks}
-use Rattle.comparison.specs.Rows.{HasTenDigits, Starts, ReadsField, IsRowOf, ReadsNoRow, numbers_row, front_of}
+use Rattle.comparison.specs.Rows.{HasUpToTenDigits, Starts, ReadsField, IsRowOf, ReadsNoRow, numbers_row, front_of}
 use Rattle.comparison.specs.declared.problem.Problem.{Problem}
 use Rattle.comparison.specs.declared.problem.Problem.TheVariants.{At, Memory, OfParts, OfRule}
 
@@ -52,7 +52,7 @@ starts field (other ∷ others) lacks = (lacks, inr (join_with_byte 44 (other �
 -- the line so far: its fields are these numbers, as far as they were read
 pub record Sofar (most : ℕ) (bs : List ℕ) (read : ℕ) (before : List ℕ) : Type 0 where
   pub fields : take read (fields_of bs) ≡ map decimal before
-  pub short : All HasTenDigits before
+  pub short : All HasUpToTenDigits before
   pub few : length before ≤ most
 
 pub all_fields : (most : ℕ) (bs found : List ℕ) (read : ℕ) → Sofar most bs read found → length (fields_of bs) ≤ read → IsRowOf most bs found
@@ -72,7 +72,7 @@ module _ (line most : ℕ) (bs before field : List ℕ) (read : ℕ) (so_far : S
       let fact = one.1.1 in
       subst (Sofar most bs (read + 1)) (sym fact.2) (record {
         fields = take_more (fields_of bs) read field within ∙ ap₂ (λ l f. l ++ (f ∷ [])) so_far.fields (sym is ∙ fact.1) ∙ sym (map-append decimal before (n ∷ []));
-        short = All-push HasTenDigits before n so_far.short fact.0;
+        short = All-push HasUpToTenDigits before n so_far.short fact.0;
         few = omega (arith, length_push before n, one.0);
       })
 

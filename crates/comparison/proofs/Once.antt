@@ -6,7 +6,7 @@ use Rattle.std.proofs.lemmas.List.Elements.{All-head, All-tail}
 use Rattle.fields.proofs.Lacking.{cut_once, no_mark}
 use Rattle.fields.specs.Cuts.{Lacks}
 use Rattle.comparison.proofs.Exact.{comma_no_digit, row_goes_on, row_lacks, short_lacks}
-use Rattle.comparison.specs.Rows.{HasTenDigits, IsWrongField, IsRowOf, Starts, Stops, front_of, numbers_row}
+use Rattle.comparison.specs.Rows.{HasUpToTenDigits, IsWrongField, IsRowOf, Starts, Stops, front_of, numbers_row}
 use Rattle.comparison.specs.Questions.{Begins, IsNoParts, HasOneFault, AsksOneQuestion, at, parts_text, second_endless, second_unread, third_line, first_endless, first_unread, no_need, no_parts}
 use Rattle.comparison.specs.declared.question.Fault.{Fault}
 use Rattle.comparison.specs.declared.question.Wrong.{Wrong}
@@ -14,30 +14,30 @@ use Rattle.comparison.specs.declared.question.Wrong.TheVariants.{LineFeed, Numbe
 
 -- ---- one question
 
-same_short : (n m : ℕ) → HasTenDigits n → HasTenDigits m → decimal n ≡ decimal m → n ≡ m
+same_short : (n m : ℕ) → HasUpToTenDigits n → HasUpToTenDigits m → decimal n ≡ decimal m → n ≡ m
 same_short n m small less e = decimal_injective n m (omega arith) (omega arith) e
 
 -- a number's text has no comma
-uncut : (n : ℕ) → HasTenDigits n → Lacks 44 (decimal n)
+uncut : (n : ℕ) → HasUpToTenDigits n → Lacks 44 (decimal n)
 uncut n small = short_lacks 44 n comma_no_digit small
 
-same_row : (ns ms : List ℕ) → All HasTenDigits ns → All HasTenDigits ms → 1 ≤ length ns → 1 ≤ length ms → numbers_row ns ≡ numbers_row ms → ns ≡ ms
+same_row : (ns ms : List ℕ) → All HasUpToTenDigits ns → All HasUpToTenDigits ms → 1 ≤ length ns → 1 ≤ length ms → numbers_row ns ≡ numbers_row ms → ns ≡ ms
 same_row [] ms short also some more e = absurd (omega arith)
 same_row (n ∷ ns) [] short also some more e = absurd (omega arith)
 same_row (n ∷ []) (m ∷ []) short also some more e =
-    ap (λ k. k ∷ []) (same_short n m (All-head HasTenDigits n [] short) (All-head HasTenDigits m [] also) e)
+    ap (λ k. k ∷ []) (same_short n m (All-head HasUpToTenDigits n [] short) (All-head HasUpToTenDigits m [] also) e)
 same_row (n ∷ []) (m ∷ m' ∷ ms) short also some more e =
-    absurd (no_mark 44 (decimal m) (numbers_row (m' ∷ ms)) (decimal n) (uncut n (All-head HasTenDigits n [] short)) e)
+    absurd (no_mark 44 (decimal m) (numbers_row (m' ∷ ms)) (decimal n) (uncut n (All-head HasUpToTenDigits n [] short)) e)
 same_row (n ∷ n' ∷ ns) (m ∷ []) short also some more e =
-    absurd (no_mark 44 (decimal n) (numbers_row (n' ∷ ns)) (decimal m) (uncut m (All-head HasTenDigits m [] also)) (sym e))
+    absurd (no_mark 44 (decimal n) (numbers_row (n' ∷ ns)) (decimal m) (uncut m (All-head HasUpToTenDigits m [] also)) (sym e))
 same_row (n ∷ n' ∷ ns) (m ∷ m' ∷ ms) short also some more e =
-    let first = All-head HasTenDigits n (n' ∷ ns) short in
-    let second = All-head HasTenDigits m (m' ∷ ms) also in
+    let first = All-head HasUpToTenDigits n (n' ∷ ns) short in
+    let second = All-head HasUpToTenDigits m (m' ∷ ms) also in
     let cut = cut_once 44 (decimal n) (decimal m) (numbers_row (n' ∷ ns)) (numbers_row (m' ∷ ms)) (uncut n first) (uncut m second) e in
-    let rest = same_row (n' ∷ ns) (m' ∷ ms) (All-tail HasTenDigits n (n' ∷ ns) short) (All-tail HasTenDigits m (m' ∷ ms) also) (omega arith) (omega arith) cut.1 in
+    let rest = same_row (n' ∷ ns) (m' ∷ ms) (All-tail HasUpToTenDigits n (n' ∷ ns) short) (All-tail HasUpToTenDigits m (m' ∷ ms) also) (omega arith) (omega arith) cut.1 in
     ap₂ (λ k l. k ∷ l) (same_short n m first second cut.0) rest
 
-same_parts : (ps qs : List ℕ) → All HasTenDigits ps → All HasTenDigits qs → parts_text ps ≡ parts_text qs → ps ≡ qs
+same_parts : (ps qs : List ℕ) → All HasUpToTenDigits ps → All HasUpToTenDigits qs → parts_text ps ≡ parts_text qs → ps ≡ qs
 same_parts [] [] short also e = refl
 same_parts [] (q ∷ qs) short also e = absurd (omega (arith, ap length e, length-append (numbers_row (q ∷ qs)) (10 ∷ [])))
 same_parts (p ∷ ps) [] short also e = absurd (omega (arith, ap length e, length-append (numbers_row (p ∷ ps)) (10 ∷ [])))
@@ -56,7 +56,7 @@ one_question bs pool other needs others parts further asks also =
 -- ---- one fault
 
 -- a field with a comma after it, and what begins the same text
-first_field : (b : ℕ) (field more rest : List ℕ) → HasTenDigits b → Starts field rest → rest ≡ decimal b ++ (44 ∷ more) → field ≡ decimal b
+first_field : (b : ℕ) (field more rest : List ℕ) → HasUpToTenDigits b → Starts field rest → rest ≡ decimal b ++ (44 ∷ more) → field ≡ decimal b
 first_field b field more rest small starts is =
     ⊎_elim (λ whole. absurd (no_mark 44 (decimal b) more field starts.0 (sym whole ∙ is)))
     (λ cut. (cut_once 44 field (decimal b) cut.0 more starts.0 (uncut b small) (sym cut.1 ∙ is)).0)
@@ -71,7 +71,7 @@ no_further most before field Missing why = absurd why
 no_further most before field Line why = absurd why
 
 -- a field that is a number, with another after it that may be there, is not faulty
-no_fault : (most before b : ℕ) (field : List ℕ) (wrong : Wrong) → HasTenDigits b → field ≡ decimal b → before < most → IsWrongField most before field wrong → ⊥
+no_fault : (most before b : ℕ) (field : List ℕ) (wrong : Wrong) → HasUpToTenDigits b → field ≡ decimal b → before < most → IsWrongField most before field wrong → ⊥
 no_fault most before b field Number small is few why = why.1 b small is
 no_fault most before b field Surplus small is few why = omega (arith, why)
 no_fault most before b field LineFeed small is few why = why
@@ -95,24 +95,24 @@ same_wrong most before field other Surplus Line why too = absurd too
 
 -- two faults of one line are behind as many fields
 module _ (most : ℕ) (field other : List ℕ) (wrong also : Wrong) where
-  same_count : (front : ℕ) (fs gs : List ℕ) (rest more : List ℕ) → All HasTenDigits fs → All HasTenDigits gs → front_of fs ++ rest ≡ front_of gs ++ more → Starts field rest → Starts other more → IsWrongField most (front + length fs) field wrong → IsWrongField most (front + length gs) other also → length fs ≡ length gs
+  same_count : (front : ℕ) (fs gs : List ℕ) (rest more : List ℕ) → All HasUpToTenDigits fs → All HasUpToTenDigits gs → front_of fs ++ rest ≡ front_of gs ++ more → Starts field rest → Starts other more → IsWrongField most (front + length fs) field wrong → IsWrongField most (front + length gs) other also → length fs ≡ length gs
   same_count front [] [] rest more short too e starts begins why because = refl
   same_count front [] (g ∷ gs) rest more short too e starts begins why because =
-      let small = All-head HasTenDigits g gs too in
+      let small = All-head HasUpToTenDigits g gs too in
       let is = first_field g field (front_of gs ++ more) rest small starts (e ∙ simp append_assoc) in
       let few = no_further most (front + length (g ∷ gs)) other also because in
       absurd (no_fault most (front + 0) g field wrong small is (omega (arith, few)) why)
   same_count front (f ∷ fs) [] rest more short too e starts begins why because =
-      let small = All-head HasTenDigits f fs short in
+      let small = All-head HasUpToTenDigits f fs short in
       let is = first_field f other (front_of fs ++ rest) more small begins (sym e ∙ simp append_assoc) in
       let few = no_further most (front + length (f ∷ fs)) field wrong why in
       absurd (no_fault most (front + 0) f other also small is (omega (arith, few)) because)
   same_count front (f ∷ fs) (g ∷ gs) rest more short too e starts begins why because =
       let joined : decimal f ++ (44 ∷ (front_of fs ++ rest)) ≡ decimal g ++ (44 ∷ (front_of gs ++ more)) = simp append_assoc at e in
-      let cut = cut_once 44 (decimal f) (decimal g) _ _ (uncut f (All-head HasTenDigits f fs short)) (uncut g (All-head HasTenDigits g gs too)) joined in
+      let cut = cut_once 44 (decimal f) (decimal g) _ _ (uncut f (All-head HasUpToTenDigits f fs short)) (uncut g (All-head HasUpToTenDigits g gs too)) joined in
       let one : front + length (f ∷ fs) ≡ suc front + length fs = omega arith in
       let two : front + length (g ∷ gs) ≡ suc front + length gs = omega arith in
-      ap suc (same_count (suc front) fs gs rest more (All-tail HasTenDigits f fs short) (All-tail HasTenDigits g gs too) cut.1 starts begins
+      ap suc (same_count (suc front) fs gs rest more (All-tail HasUpToTenDigits f fs short) (All-tail HasUpToTenDigits g gs too) cut.1 starts begins
       (subst (λ n. IsWrongField most n field wrong) one why) (subst (λ n. IsWrongField most n other also) two because))
 
 same_fault : (fault other : Fault) → fault.line ≡ other.line → fault.field ≡ other.field → fault.wrong ≡ other.wrong → fault ≡ other
@@ -158,7 +158,7 @@ parts_once bs _ _ (third_line second rest ps begins of some) (third_line other m
 -- one number alone and a number with needs behind it are not the same line
 alone : (bs first rest other more needs : List ℕ) (pool pool' need : ℕ) → Begins bs first rest → Begins bs other more → IsRowOf 33 first (pool ∷ []) → IsRowOf 33 other (pool' ∷ need ∷ needs) → ⊥
 alone bs first rest other more needs pool pool' need begins also one of =
-    no_mark 44 (decimal pool') (numbers_row (need ∷ needs)) (decimal pool) (uncut pool (All-head HasTenDigits pool [] one.short))
+    no_mark 44 (decimal pool') (numbers_row (need ∷ needs)) (decimal pool) (uncut pool (All-head HasUpToTenDigits pool [] one.short))
     (sym one.text ∙ (same_line bs first rest other more begins also).0 ∙ of.text)
 
 pub one_fault : HasOneFault

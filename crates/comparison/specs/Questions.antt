@@ -3,7 +3,7 @@ use Rattle.std.specs.Prelude.{All, ◌≡◌, ℕ, ◌+◌, ◌<◌, ◌≤◌, 
 use Rattle.fields.specs.Bytes.{line_feed}
 use Rattle.fields.specs.Cuts.{Lacks}
 use Rattle.sharing.specs.Limits.{most_places}
-use Rattle.comparison.specs.Rows.{HasTenDigits, IsRowOf, Stops, numbers_row}
+use Rattle.comparison.specs.Rows.{HasUpToTenDigits, IsRowOf, Stops, numbers_row}
 use Rattle.comparison.specs.declared.problem.Problem.{Problem}
 use Rattle.comparison.specs.declared.problem.Problem.TheVariants.{At, Memory, OfParts, OfRule}
 use Rattle.comparison.specs.declared.question.Fault.{Fault}
@@ -24,8 +24,8 @@ question_text pool needs parts = numbers_row (pool ∷ needs) ++ (line_feed ∷ 
 -- each number of up to ten digits
 pub record Asks (bs : List ℕ) (pool : ℕ) (needs parts : List ℕ) : Type 0 where
   pub text : bs ≡ question_text pool needs parts
-  pub short : All HasTenDigits (pool ∷ needs)
-  pub short_parts : All HasTenDigits parts
+  pub short : All HasUpToTenDigits (pool ∷ needs)
+  pub short_parts : All HasUpToTenDigits parts
   pub some : 1 ≤ length needs
   pub few : length needs ≤ most_places
   pub few_parts : length parts ≤ most_places
@@ -89,7 +89,7 @@ ReadsQuestion bs (Err why) = ReadsNoQuestion bs why
 -- the text after the first line has these parts
 pub record HasParts (bs parts : List ℕ) : Type 0 where
   pub text : bs ≡ parts_text parts
-  pub short : All HasTenDigits parts
+  pub short : All HasUpToTenDigits parts
   pub few : length parts ≤ most_places
 
 -- why no parts were read

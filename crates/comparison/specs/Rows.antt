@@ -10,8 +10,8 @@ use Rattle.comparison.specs.declared.question.Wrong.{Wrong}
 use Rattle.comparison.specs.declared.question.Wrong.TheVariants.{LineFeed, Number, Missing, Surplus, Line}
 
 -- a number of up to ten digits
-abbrev pub HasTenDigits : ℕ → Type 0
-HasTenDigits n = n ≤ 9999999999
+abbrev pub HasUpToTenDigits : ℕ → Type 0
+HasUpToTenDigits n = n ≤ 9999999999
 
 -- the numbers parted by commas
 abbrev pub numbers_row : List ℕ → List ℕ
@@ -29,7 +29,7 @@ Starts field bs = Lacks comma field × ((bs ≡ field) ⊎ ((after : List ℕ) �
 
 -- the field spells no number of up to ten digits
 abbrev pub IsNoNumber : List ℕ → Type 0
-IsNoNumber field = (n : ℕ) → HasTenDigits n → field ≢ decimal n
+IsNoNumber field = (n : ℕ) → HasUpToTenDigits n → field ≢ decimal n
 
 -- what is wrong with a field, of which a line may have most, after those before it
 abbrev pub IsWrongField : (most before : ℕ) → List ℕ → Wrong → Type 0
@@ -44,7 +44,7 @@ pub record Stops (line most : ℕ) (bs : List ℕ) (fault : Fault) : Type 0 wher
   pub before : List ℕ
   pub rest : List ℕ
   pub text : bs ≡ front_of before ++ rest
-  pub short : All HasTenDigits before
+  pub short : All HasUpToTenDigits before
   pub at_line : fault.line ≡ line
   pub at_field : fault.field ≡ Some (length before + 1)
   pub field : List ℕ
@@ -54,7 +54,7 @@ pub record Stops (line most : ℕ) (bs : List ℕ) (fault : Fault) : Type 0 wher
 -- the text is the row of these numbers
 pub record IsRowOf (most : ℕ) (bs : List ℕ) (ns : List ℕ) : Type 0 where
   pub text : bs ≡ numbers_row ns
-  pub short : All HasTenDigits ns
+  pub short : All HasUpToTenDigits ns
   pub some : 1 ≤ length ns
   pub few : length ns ≤ most
 
@@ -73,7 +73,7 @@ ReadsNumbers line most bs (Err why) = ReadsNoRow line most bs why
 -- what one more field of a line adds to the numbers before it
 abbrev pub ReadsField : (line most : ℕ) (before field : List ℕ) → Result (Unit {0}) Problem → List ℕ → Type 0
 ReadsField line most before field (Ok done) after =
-    (length before < most) × ((n : ℕ) × (HasTenDigits n × (field ≡ decimal n) × (after ≡ before ++ (n ∷ []))))
+    (length before < most) × ((n : ℕ) × (HasUpToTenDigits n × (field ≡ decimal n) × (after ≡ before ++ (n ∷ []))))
 ReadsField line most before field (Err (At fault)) after =
     (fault.line ≡ line) × (fault.field ≡ Some (length before + 1)) × IsWrongField most (length before) field fault.wrong
 ReadsField line most before field (Err (OfRule refusal)) after = ⊥

@@ -1,7 +1,7 @@
 -- How it is told in words why there is no table.
 use Rattle.std.specs.Prelude.{ℕ, List, ◌++◌, codes}
 use Rattle.fields.specs.Places.{place_words}
-use Rattle.sharing.specs.Refusals.{meaning, parts_meaning, refusal_words}
+use Rattle.sharing.specs.Refusals.{meaning, parts_meaning, refusal_text}
 use Rattle.comparison.specs.declared.problem.Problem.{Problem}
 use Rattle.comparison.specs.declared.problem.Problem.TheVariants.{At, Memory, OfParts, OfRule}
 use Rattle.comparison.specs.declared.question.Fault.{Fault}
@@ -23,6 +23,6 @@ fault_words fault = place_words fault.line fault.field (wrong_words fault.wrong)
 -- the place of the fault, or the refusal with its number and its words
 abbrev pub problem_words : Problem → List ℕ
 problem_words (At fault) = fault_words fault
-problem_words (OfRule refusal) = codes "refused by " ++ refusal_words (meaning refusal)
-problem_words (OfParts refusal) = codes "refused by " ++ refusal_words (parts_meaning refusal)
+problem_words (OfRule refusal) = codes "refused by " ++ refusal_text (meaning refusal)
+problem_words (OfParts refusal) = codes "refused by " ++ refusal_text (parts_meaning refusal)
 problem_words Memory = codes "there is no memory"

@@ -1,6 +1,6 @@
 -- What a minus in front of a number's digits tells.
 use Rattle.std.proofs.Common.{◌≡◌, ℕ, zero, suc, ◌^◌, ◌<◌, ◌≤◌, List, ◌∷◌, length, get_or, ℤ, pos, negsuc, nat_abs, Some, None, decimal, Option, sym, ap, ◌∙◌, subst, arith}
-use Rattle.fields.specs.Digits.{IsBelowZero}
+use Rattle.fields.specs.Digits.{NegatesPositive}
 use Rattle.fields.specs.Reads.{Reads}
 use Rattle.fields.proofs.Reading.{own}
 use Rattle.std.proofs.lemmas.Fmt.{decimal_nonempty, digits_decimal, decimal_injective}
@@ -37,7 +37,7 @@ module _ (bs : List ℕ) (most : ℕ) (small : most < 2 ^ 32) (some : 0 < length
       none (omega arith)
 
   -- with such digits the number below 0 is spelled
-  pub with_digits : (n : ℕ) (r : Option ℤ) → n ≤ most → between 1 (length bs) bs ≡ decimal n → IsBelowZero n r → Reads (λ z. nat_abs z ≤ most) signed_decimal bs r
+  pub with_digits : (n : ℕ) (r : Option ℤ) → n ≤ most → between 1 (length bs) bs ≡ decimal n → NegatesPositive n r → Reads (λ z. nat_abs z ≤ most) signed_decimal bs r
   with_digits n None le e told = not_zero n le e told
   with_digits zero (Some z) le e told = absurd (omega (arith, told.0))
   with_digits (suc m) (Some z) le e told =

@@ -47,8 +47,8 @@ ReadsValue {X} s bs r =
     (λ x. s.form bs × (s.fine x × (bs ≡ s.text x)))
 
 -- what the reader of a column answers: such a value of the field, or the line and the number of the wrong field
-abbrev pub ColumnReads : {X : Type 0} → Spelling X → Field → Result X WrongField → Type 0
-ColumnReads {X} s field r =
+abbrev pub ReadsColumn : {X : Type 0} → Spelling X → Field → Result X WrongField → Type 0
+ReadsColumn {X} s field r =
     MatchResult r (λ x. s.form field.part.now × (s.fine x × (field.part.now ≡ s.text x)))
     (λ wrong.
     (wrong.line ≡ field.line) × (wrong.number ≡ field.number)

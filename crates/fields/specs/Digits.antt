@@ -4,17 +4,17 @@ use Rattle.std.specs.Option.{SomeIff}
 use Rattle.std.specs.Int.{IsInRange}
 
 -- the value of a byte that is a digit
-abbrev pub IsDigit : ℕ → Option ℕ → Type 0
-IsDigit c r = SomeIff r (IsInRange 48 57 c) (c - 48)
+abbrev pub ReadsDigit : ℕ → Option ℕ → Type 0
+ReadsDigit c r = SomeIff r (IsInRange 48 57 c) (c - 48)
 
 -- the number that two digits write
-abbrev pub AreTwoDigits : (tens ones : ℕ) → Option ℕ → Type 0
-AreTwoDigits tens ones r =
+abbrev pub ReadsTwoDigits : (tens ones : ℕ) → Option ℕ → Type 0
+ReadsTwoDigits tens ones r =
     SomeIff r (IsInRange 48 57 tens × IsInRange 48 57 ones) ((tens - 48) * 10 + (ones - 48))
 
 -- the number that four digits write
-abbrev pub AreFourDigits : (thousands hundreds tens ones : ℕ) → Option ℕ → Type 0
-AreFourDigits thousands hundreds tens ones r =
+abbrev pub ReadsFourDigits : (thousands hundreds tens ones : ℕ) → Option ℕ → Type 0
+ReadsFourDigits thousands hundreds tens ones r =
     SomeIff r
     (IsInRange 48 57 thousands × IsInRange 48 57 hundreds
     × IsInRange 48 57 tens × IsInRange 48 57 ones)
@@ -27,5 +27,5 @@ SpellsNumber bs r =
     (λ n. (bs ≡ decimal n) × ((x : ℕ) → x < 2 ^ 64 → bs ≡ decimal x → x ≡ n))
 
 -- the negative of a number, or none where it is 0
-abbrev pub IsBelowZero : ℕ → Option ℤ → Type 0
-IsBelowZero n r = SomeIff r (0 < n) (neg_ℤ (pos n))
+abbrev pub NegatesPositive : ℕ → Option ℤ → Type 0
+NegatesPositive n r = SomeIff r (0 < n) (neg_ℤ (pos n))

@@ -1,7 +1,7 @@
 //! What a column of a table holds.
 ghost use Rattle.std.specs.Prelude.{◌≤◌, codes, decimal, unsigned_abs};
 ghost use Rattle.calendar.specs.Gregorian.{last_day};
-ghost use Rattle.fields.specs.Columns.{ColumnReads, DateForm, MissingForm, NumberForm, SignedForm, Spelling, ReadsValue};
+ghost use Rattle.fields.specs.Columns.{ReadsColumn, DateForm, MissingForm, NumberForm, SignedForm, Spelling, ReadsValue};
 ghost use Rattle.fields.specs.Reads.{Reads};
 ghost use Rattle.fields.specs.Texts.{day_text};
 ghost use Rattle.std.specs.Fmt.{signed_decimal};
@@ -26,7 +26,7 @@ pub trait Column: Copy {
 
     /// The value that the field spells, or that the field is wrong where it has not the form of the column.
     final fn read(field: Field<'_>) -> Result<Self, WrongField>
-        ensures { ColumnReads spelling field.entry result }
+        ensures { ReadsColumn spelling field.entry result }
     {
         Self::of(field.part).ok_or(field.wrong())
     }

@@ -1,7 +1,7 @@
 //! Reads the dates and the months of a text.
 ghost use Rattle.std.specs.Prelude.{◌≤◌};
 ghost use Rattle.calendar.specs.Gregorian.{last_day, last_month};
-ghost use Rattle.fields.specs.Digits.{AreFourDigits, AreTwoDigits};
+ghost use Rattle.fields.specs.Digits.{ReadsFourDigits, ReadsTwoDigits};
 ghost use Rattle.fields.specs.Reads.{Reads};
 ghost use Rattle.fields.specs.Texts.{IsSpellable, date_text, day_text, month_text};
 
@@ -49,7 +49,7 @@ fn date(part: &[u8]) -> Option<Date>
 
 // The number that four digits write.
 fn four_digits(thousands: u8, hundreds: u8, tens: u8, ones: u8) -> Option<u16>
-    ensures { AreFourDigits thousands hundreds tens ones result }
+    ensures { ReadsFourDigits thousands hundreds tens ones result }
 {
     let front = two_digits(thousands, hundreds)?;
     let back = two_digits(tens, ones)?;
@@ -58,7 +58,7 @@ fn four_digits(thousands: u8, hundreds: u8, tens: u8, ones: u8) -> Option<u16>
 
 // The number that two digits write. Each is read by itself, since the pattern of a date names them.
 fn two_digits(tens: u8, ones: u8) -> Option<u8>
-    ensures { AreTwoDigits tens ones result }
+    ensures { ReadsTwoDigits tens ones result }
 {
     let tens = digit(tens)?;
     let ones = digit(ones)?;

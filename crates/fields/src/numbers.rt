@@ -1,6 +1,6 @@
 //! Reads the numbers of a text.
 ghost use Rattle.std.specs.Prelude.{◌+◌, ◌-◌, ◌*◌, ◌^◌, ◌<◌, ◌≤◌, ◌↔◌, decimal, IsTrue, unsigned_abs};
-ghost use Rattle.fields.specs.Digits.{IsBelowZero, IsDigit, SpellsNumber};
+ghost use Rattle.fields.specs.Digits.{NegatesPositive, ReadsDigit, SpellsNumber};
 ghost use Rattle.fields.specs.Reads.{Reads};
 ghost use Rattle.std.specs.Fmt.{signed_decimal};
 ghost use Rattle.std.specs.Int.{IsInRange};
@@ -42,7 +42,7 @@ pub fn signed_number(part: &[u8], most: u32) -> Option<i64>
 // The number below 0 with these digits, or none where they are those of 0, which has no minus.
 fn below_zero(value: u64) -> Option<i64>
     requires { value < 2 ^ 32 }
-    ensures { IsBelowZero value result }
+    ensures { NegatesPositive value result }
 {
     (value > 0).then(|| -(value as i64))
 }
@@ -80,7 +80,7 @@ fn followed(front: u64, byte: u8) -> Option<u64>
 
 // The value of a digit.
 pub(crate) fn digit(byte: u8) -> Option<u8>
-    ensures { IsDigit byte result }
+    ensures { ReadsDigit byte result }
 {
     match byte {
         ZERO..=NINE => Some(byte - ZERO),

@@ -4,7 +4,7 @@ use Rattle.std.proofs.lemmas.Bool.Decides.{nat_tests}
 use Rattle.std.proofs.lemmas.List.{length-map}
 use Rattle.std.specs.List.{list_any}
 use Rattle.group.proofs.Stepping.{made_ok}
-use Rattle.group.specs.Groups.{blank, is_producer, members_of, opening_group, opening_check, some_register_over}
+use Rattle.group.specs.Groups.{blank, is_producer, members_of, opening_result, opening_check, some_register_over}
 use Rattle.group.specs.Members.{has_register_over, one_over, opened_flows, opened_member}
 use Rattle.group.specs.declared.group.Group.{Group}
 use Rattle.group.specs.declared.group.Phase.TheVariants.{Open}
@@ -55,7 +55,7 @@ nothing_carried : (start : ℕ) (zone : Zone) → in_zone blank.carried zone ≤
 nothing_carried start Day = omega arith
 nothing_carried start Night = omega arith
 
-pub opening_sound : (number start holder : ℕ) (records : List OpeningRecord) (after : Group) → opening_group number start holder records ≡ Ok after → IsSound after
+pub opening_sound : (number start holder : ℕ) (records : List OpeningRecord) (after : Group) → opening_result number start holder records ≡ Ok after → IsSound after
 opening_sound number start holder records after is =
     let (done, goes, same) = made_ok (λ (done : Unit {0}). record blank { number = number; holder = holder; members = record { items = members_of records }; phase = Open start }) (opening_check start holder records) after is in
     let (few, last, producer, seven) = opening_holds start holder records goes in

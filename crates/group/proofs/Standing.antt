@@ -8,10 +8,10 @@ use Rattle.ledger.specs.declared.bill.YearEnd.{YearEnd as YearFigures}
 use Rattle.ledger.specs.declared.entry.Entry.{Entry}
 use Rattle.ledger.specs.declared.entry.Entry.TheVariants.{Reading, Change, Correction, Payment}
 use Rattle.group.proofs.Stepping.{and_then_ok, made_ok, ok_or_ok}
-use Rattle.group.specs.Books.{after_opening, opening_phase, was_opened}
+use Rattle.group.specs.Books.{after_opening, blank_check, was_opened}
 use Rattle.group.specs.Drafts.{Stamp, after_month, drawing_month, drawing_result, draft_is_out_of_date, is_current, issue_result, slice_is_too_short, stamp_of}
 use Rattle.group.specs.Entries.{after_entry, amount_is_outside, no_month_is_open, open_month, place_of, recorded_member}
-use Rattle.group.specs.Groups.{blank, count_is_outside, entry_group, entry_result, holder_produces_nothing, is_over_capacity, member_at, members_of, month_is_full, opening_check, place_has_no_record, opening_group, room_for_entry, some_register_over, start_is_too_late}
+use Rattle.group.specs.Groups.{blank, count_is_outside, entry_group, entry_result, holder_produces_nothing, is_over_capacity, member_at, members_of, month_is_full, opening_check, place_has_no_record, opening_result, room_for_entry, some_register_over, start_is_too_late}
 use Rattle.group.specs.Members.{register_at, with_register}
 use Rattle.group.specs.Months.{Prices, Share, bills_of}
 use Rattle.group.specs.Payments.{debt_would_be_too_low, payment_is_outside, with_payment}
@@ -167,7 +167,7 @@ check_err P start holder records r is count late capacity produces over =
 openings_are_refused : (number start holder : ℕ) (records : List OpeningRecord) (group : Group) (refusal : BookRefusal) → after_opening number start holder records group ≡ Err refusal → stands_for_opening refusal start holder records group ≡ true
 openings_are_refused number start holder records group r is =
     let P : BookRefusal → Type 0 = λ e. stands_for_opening e start holder records group ≡ true in
-    and_then_err (P r) (opening_phase group.phase) (λ (done : Unit {0}). opening_group number start holder records) r is
+    and_then_err (P r) (blank_check group.phase) (λ (done : Unit {0}). opening_result number start holder records) r is
     (λ opened. if_err P (was_opened group.phase) refused.Opened r (Ok tt) opened (λ stands. stands) (λ ok. absurd cc))
     (λ done ok rest.
     check_err P start holder records r
@@ -365,7 +365,7 @@ month_ok places group month draws =
 
 openings_are_accepted : (number start holder : ℕ) (records : List OpeningRecord) (old new : Group) (refusal : BookRefusal) → after_opening number start holder records old ≡ Ok new → stands_for_opening refusal start holder records old ≡ false
 openings_are_accepted number start holder records old new refusal is =
-    let (done, fresh, rest) = and_then_ok (opening_phase old.phase) (λ (d : Unit {0}). opening_group number start holder records) new is in
+    let (done, fresh, rest) = and_then_ok (blank_check old.phase) (λ (d : Unit {0}). opening_result number start holder records) new is in
     let (unopened, begun) = if_ok (was_opened old.phase) refused.Opened (Ok tt) done fresh in
     let (checked, fits, same) = made_ok (λ (d : Unit {0}). record blank { number = number; holder = holder; members = record { items = members_of records }; phase = Open start }) (opening_check start holder records) new rest in
     let fifth : Result (Unit {0}) BookRefusal = if some_register_over records then Err refused.Register else Ok tt in

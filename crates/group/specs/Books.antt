@@ -1,6 +1,6 @@
 -- What contracts see of a book: a group, with the rule and the tariff that it is settled by.
 use Rattle.std.specs.Prelude.{◌≡◌, ℕ, Bool, true, false, if◌then◌else◌, List, Ok, Err, Result}
-use Rattle.group.specs.Groups.{opening_group}
+use Rattle.group.specs.Groups.{opening_result}
 use Rattle.group.specs.Results.{and_then}
 use Rattle.group.specs.declared.group.Group.{Group}
 use Rattle.group.specs.declared.group.Phase.{Phase}
@@ -28,10 +28,10 @@ was_opened (YearEnd december) = true
 was_opened Over = true
 
 -- whether a group was never opened
-abbrev pub opening_phase : Phase → Result (Unit {0}) BookRefusal
-opening_phase phase = if was_opened phase then Err Opened else Ok tt
+abbrev pub blank_check : Phase → Result (Unit {0}) BookRefusal
+blank_check phase = if was_opened phase then Err Opened else Ok tt
 
 -- the group after an opening
 abbrev pub after_opening : (number start holder : ℕ) → List OpeningRecord → Group → Result Group BookRefusal
 after_opening number start holder records group =
-    and_then (opening_phase group.phase) (λ done. opening_group number start holder records)
+    and_then (blank_check group.phase) (λ done. opening_result number start holder records)

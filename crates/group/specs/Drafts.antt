@@ -44,13 +44,13 @@ draft_is_out_of_date group stamp = not (is_current group stamp)
 abbrev pub slice_is_too_short : (places : ℕ) → Group → Bool
 slice_is_too_short places group = nat_lt places (length group.members.items)
 
--- the month that is open, where a slice of so many places has room for the lines of the group
+-- the month that is open, where a slice of so many places has room for the bills of the group
 abbrev pub drawing_month : (places : ℕ) → Group → Result ℕ BookRefusal
 drawing_month places group =
     and_then (open_month group.phase) (λ month.
     if slice_is_too_short places group then Err refused.Bills else Ok month)
 
--- a draft, and the lines of a drawing
+-- a draft, and the bills of a drawing
 abbrev pub drawing_result : Share → (ℕ → Prices) → (places : ℕ) → Group → Result (Stamp × List Bill) BookRefusal
 drawing_result share prices places group =
     result_map (λ month. (stamp_of month group, bills_of share (prices month) group)) (drawing_month places group)
@@ -68,7 +68,7 @@ after_month share prices month group = record group {
   entries = 0;
 }
 
--- the lines of an issue, and the group after it
+-- the bills of an issue, and the group after it
 abbrev pub issue_result : Share → (ℕ → Prices) → Stamp → (places : ℕ) → Group → Result (List Bill × Group) BookRefusal
 issue_result share prices stamp places group =
     and_then (drawing_month places group) (λ month.
@@ -76,9 +76,9 @@ issue_result share prices stamp places group =
     then Ok (bills_of share (prices month) group, after_month share prices month group)
     else Err refused.Draft)
 
--- a slice after lines are written over its front
+-- a slice after bills are written over its front
 abbrev pub overwritten_front : List Bill → List Bill → List Bill
-overwritten_front lines slice = lines ++ drop (length lines) slice
+overwritten_front bills slice = bills ++ drop (length bills) slice
 
 -- a draft, and the slice after a drawing
 abbrev pub after_drawing : Share → (ℕ → Prices) → Group → List Bill → Result (Stamp × List Bill) BookRefusal

@@ -84,8 +84,8 @@ abbrev pub members_of : List OpeningRecord → List Member
 members_of records = map opened_member records
 
 -- a group as it opens
-abbrev pub opening_group : (number start holder : ℕ) → List OpeningRecord → Result Group BookRefusal
-opening_group number start holder records =
+abbrev pub opening_result : (number start holder : ℕ) → List OpeningRecord → Result Group BookRefusal
+opening_result number start holder records =
     result_map (λ done. record blank {
       number = number;
       holder = holder;

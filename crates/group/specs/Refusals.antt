@@ -27,7 +27,7 @@ meaning Opened = record { number = 1; words = codes "the book has been opened al
 meaning Count = record { number = 2; words = codes "a group has 1 to 32 members" }
 meaning Start = record { number = 3; words = codes "no book opens after December 2099" }
 meaning Capacity = record { number = 4; words = codes "a member has over 150 kW, or all together have over 1050 kW" }
-meaning Holder = record { number = 5; words = codes "the holder has no capacity" }
+meaning Holder = record { number = 5; words = codes "nobody with a capacity is at the place of the holder" }
 meaning Register = record { number = 6; words = codes "a register opens with more than seven digits" }
 meaning NoMonth = record { number = 11; words = codes "no month is open" }
 meaning NoYearEnd = record { number = 12; words = codes "no year waits for its closing" }

@@ -1,5 +1,5 @@
 -- What a reading, a meter change and a correction do to a register.
-use Rattle.std.specs.Prelude.{ℕ, ◌-◌, Bool, not, ◌||◌, if◌then◌else◌, ℤ, pos, ◌+ℤ◌, nat_abs, nat_le, nat_lt, Option, Some, None, is_none, Ok, Err, Result}
+use Rattle.std.specs.Prelude.{◌≤◌, ◌≡◌, ℕ, ◌-◌, Bool, not, ◌||◌, if◌then◌else◌, ℤ, pos, ◌+ℤ◌, nat_abs, nat_le, nat_lt, Option, Some, None, is_none, Ok, Err, Result}
 use Rattle.std.specs.Option.{ok_or}
 use Rattle.calendar.specs.Gregorian.{lies_in}
 use Rattle.group.specs.Results.{and_then, result_map}
@@ -22,6 +22,12 @@ most_tally = 1000000
 -- the day belongs to another month
 abbrev pub day_is_outside : (month day : ℕ) → Bool
 day_is_outside month day = not (lies_in day month)
+
+-- of a value that a register can stand at, the quantity is one that a register can show, whatever it stood at before
+abbrev pub QuantitiesHaveSevenDigits : Type 0
+QuantitiesHaveSevenDigits =
+    (standing value kwh : ℕ) → value ≤ most_standing → quantity standing value ≡ Some kwh
+    → kwh ≤ most_standing
 
 -- no register of seven digits can stand at the value
 abbrev pub is_over : ℕ → Bool

@@ -1,6 +1,6 @@
 //! A group, its opening, and its entries, each of which changes one record.
 ghost use Rattle.std.specs.Prelude.{◌≡◌, ◌<◌, ◌≤◌, length};
-ghost use Rattle.group.specs.Groups.{entry_result, blank, capacities_fit, entry_group, is_producer, member_at, members_of, most_in_month, most_members, opening_group, opening_check, room_for_entry, some_register_over};
+ghost use Rattle.group.specs.Groups.{entry_result, blank, capacities_fit, entry_group, is_producer, member_at, members_of, most_in_month, most_members, opening_result, opening_check, room_for_entry, some_register_over};
 ghost use Rattle.group.specs.Members.{on_account, on_register};
 ghost use Rattle.group.specs.Payments.{with_payment};
 ghost use Rattle.group.specs.Registers.{with_correction, with_reading};
@@ -73,9 +73,9 @@ impl Group {
         holder: usize,
         records: &[OpeningRecord],
     ) -> Result<Group, BookRefusal>
-        ensures { result ≡ opening_group number start holder records.now }
+        ensures { result ≡ opening_result number start holder records.now }
     {
-        opening(start, holder, records)?;
+        opening_check(start, holder, records)?;
         Ok(Group {
             number,
             holder,
@@ -153,7 +153,7 @@ impl Group {
 }
 
 // Whether a group may open so.
-fn opening(start: Month, holder: usize, records: &[OpeningRecord]) -> Result<(), BookRefusal>
+fn opening_check(start: Month, holder: usize, records: &[OpeningRecord]) -> Result<(), BookRefusal>
     ensures { result ≡ opening_check start holder records.now }
 {
     if records.is_empty() || records.len() > PLACES {
@@ -168,7 +168,7 @@ fn opening(start: Month, holder: usize, records: &[OpeningRecord]) -> Result<(),
     if !is_producer(holder, records) {
         return Err(BookRefusal::Holder);
     }
-    if some_over(records) {
+    if some_register_over(records) {
         return Err(BookRefusal::Register);
     }
     Ok(())
@@ -199,7 +199,7 @@ fn is_producer(place: usize, records: &[OpeningRecord]) -> bool
 }
 
 // Whether a register opens over its largest value.
-fn some_over(records: &[OpeningRecord]) -> bool
+fn some_register_over(records: &[OpeningRecord]) -> bool
     ensures { result ≡ some_register_over records.now }
 {
     records.iter().any(|record| record.is_over())

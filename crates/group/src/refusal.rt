@@ -38,7 +38,7 @@ pub enum BookRefusal {
     Tally,
     /// The group would owe the member more than 1,000,000,000 drams.
     Debt,
-    /// The slice ends before the line of the last member.
+    /// The slice ends before the bill of the last member.
     Bills,
     /// The draft does not agree with the book as it stands.
     Draft,
@@ -79,7 +79,7 @@ impl BookRefusal {
             BookRefusal::Count => "a group has 1 to 32 members",
             BookRefusal::Start => "no book opens after December 2099",
             BookRefusal::Capacity => "a member has over 150 kW, or all together have over 1050 kW",
-            BookRefusal::Holder => "the holder has no capacity",
+            BookRefusal::Holder => "nobody with a capacity is at the place of the holder",
             BookRefusal::Register => "a register opens with more than seven digits",
             BookRefusal::NoMonth => "no month is open",
             BookRefusal::NoYearEnd => "no year waits for its closing",

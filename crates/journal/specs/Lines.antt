@@ -64,18 +64,18 @@ abbrev pub line_text : Line → List ℕ
 line_text line = line_of (kind_word (kind_of line) ∷ others line)
 
 -- a number of up to nine digits
-abbrev HasNineDigits : ℕ → Type 0
-HasNineDigits n = n ≤ 999999999
+abbrev HasUpToNineDigits : ℕ → Type 0
+HasUpToNineDigits n = n ≤ 999999999
 
 -- the numbers of the line have up to nine digits, and its day is one of the calendar
 abbrev pub IsWritable : Line → Type 0
 IsWritable (Enter (Reading register day value)) =
-    HasNineDigits register.place × HasNineDigits value × (day ≤ last_day)
+    HasUpToNineDigits register.place × HasUpToNineDigits value × (day ≤ last_day)
 IsWritable (Enter (Change register day value start)) =
-    HasNineDigits register.place × HasNineDigits value × HasNineDigits start × (day ≤ last_day)
+    HasUpToNineDigits register.place × HasUpToNineDigits value × HasUpToNineDigits start × (day ≤ last_day)
 IsWritable (Enter (Correction register quantity)) =
-    HasNineDigits register.place × HasNineDigits (unsigned_abs quantity)
-IsWritable (Enter (Payment place drams)) = HasNineDigits place × HasNineDigits drams
+    HasUpToNineDigits register.place × HasUpToNineDigits (unsigned_abs quantity)
+IsWritable (Enter (Payment place drams)) = HasUpToNineDigits place × HasUpToNineDigits drams
 IsWritable Issue = Unit {0}
 IsWritable Year = Unit {0}
 

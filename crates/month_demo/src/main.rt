@@ -60,7 +60,7 @@ fn issue<R: SharingRule, T: Tariff>(
     book: &mut Book<R, T>,
     bills: &mut [Bill],
 ) -> Result<(), BookRefusal> {
-    // Drawing alters nothing in the book: the lines can be looked over before they count.
+    // Drawing alters nothing in the book: the bills can be looked over before they count.
     let draft = book.draw(bills)?;
     // A draft is never just dropped. It goes in and comes back here, and ends in an issue or a withdrawal.
     let (draft, current) = book.check(draft);

@@ -22,36 +22,36 @@ run_refusal_number (Book refusal) = book_number refusal
 run_refusal_number Room = 27
 
 -- the same refusal in words
-abbrev pub words_of : RunRefusal → List ℕ
-words_of Journal = codes "the journal is over 65536 bytes, or does not begin with its line of names"
-words_of (Line refusal) = read_words refusal
-words_of (Book refusal) = (meaning refusal).words
-words_of Room = codes "the output has under 4096 bytes left"
+abbrev pub run_refusal_words : RunRefusal → List ℕ
+run_refusal_words Journal = codes "the journal is over 65536 bytes, or does not begin with its line of names"
+run_refusal_words (Line refusal) = read_words refusal
+run_refusal_words (Book refusal) = (meaning refusal).words
+run_refusal_words Room = codes "the output has under 4096 bytes left"
 
 -- the first field that has not its form, where that is why
-abbrev pub field_of : RunRefusal → Option ℕ
-field_of Journal = None
-field_of (Line refusal) = read_refusal_field refusal
-field_of (Book refusal) = None
-field_of Room = None
+abbrev pub run_refusal_field : RunRefusal → Option ℕ
+run_refusal_field Journal = None
+run_refusal_field (Line refusal) = read_refusal_field refusal
+run_refusal_field (Book refusal) = None
+run_refusal_field Room = None
 
 -- the layer that refuses
-abbrev pub layer_of : RunRefusal → Layer
-layer_of Journal = layers.Text
-layer_of (Line refusal) = layers.Text
-layer_of (Book refusal) = layers.Book
-layer_of Room = layers.Text
+abbrev pub run_refusal_layer : RunRefusal → Layer
+run_refusal_layer Journal = layers.Text
+run_refusal_layer (Line refusal) = layers.Text
+run_refusal_layer (Book refusal) = layers.Book
+run_refusal_layer Room = layers.Text
 
 -- the fault of a refusal at a line
 abbrev pub fault_at : (line : ℕ) → RunRefusal → RunFault
 fault_at line refusal =
-    record { line = line; field = field_of refusal; layer = layer_of refusal; refusal = refusal }
+    record { line = line; field = run_refusal_field refusal; layer = run_refusal_layer refusal; refusal = refusal }
 
 -- a fault in words, with the number of its refusal
 abbrev pub run_fault_words : RunFault → List ℕ
 run_fault_words fault =
     place_words fault.line fault.field
-    (words_of fault.refusal ++ (codes " (" ++ (decimal (run_refusal_number fault.refusal) ++ codes ")")))
+    (run_refusal_words fault.refusal ++ (codes " (" ++ (decimal (run_refusal_number fault.refusal) ++ codes ")")))
 
 -- the word of a layer
 abbrev pub layer_word : Layer → List ℕ

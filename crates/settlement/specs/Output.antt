@@ -15,7 +15,7 @@ output_refusal_number Room = 27
 
 -- the same refusal in words
 abbrev pub output_words : OutputRefusal → List ℕ
-output_words Room = codes "the slice has less room than the line is given"
+output_words Room = codes "the slice has less room than the line asks for"
 
 -- the line of names of the output
 abbrev pub output_names : List ℕ

@@ -81,13 +81,13 @@ DoesLine share prices line at old answer new =
     DoesStep (after_line share prices (length old.0 - at) line old.1) at old answer new
 
 -- a step is done; or the fault is told at the line with this number
-abbrev ToldDone : (number : ℕ) → Result (List ℕ × Group) RunRefusal → (at : ℕ) → (old : List ℕ × Group) → Result ℕ RunFault → (new : List ℕ × Group) → Type 0
-ToldDone number step at old (Ok end) new = DoesStep step at old (Ok end) new
-ToldDone number step at old (Err fault) new =
+abbrev DoesStepAt : (number : ℕ) → Result (List ℕ × Group) RunRefusal → (at : ℕ) → (old : List ℕ × Group) → Result ℕ RunFault → (new : List ℕ × Group) → Type 0
+DoesStepAt number step at old (Ok end) new = DoesStep step at old (Ok end) new
+DoesStepAt number step at old (Err fault) new =
     ((step ≡ Err fault.refusal) × (fault ≡ fault_at number fault.refusal)) × (new ≡ old)
 
 -- what is read of the text of the line with this number is done
 abbrev pub DoesText : Share → (ℕ → Prices) → (text : List ℕ) → (number : ℕ) → (at : ℕ) → (old : List ℕ × Group) → Result ℕ RunFault → (new : List ℕ × Group) → Type 0
 DoesText share prices text number at old answer new =
     (reading : Result Line LineFault) × ReadsLine text number reading
-    × ToldDone number (after_reading share prices (length old.0 - at) reading old.1) at old answer new
+    × DoesStepAt number (after_reading share prices (length old.0 - at) reading old.1) at old answer new

@@ -1,6 +1,6 @@
 //! Where and why a run stops.
 ghost use Rattle.std.specs.Prelude.{◌≡◌, Some};
-ghost use Rattle.settlement.specs.Faults.{fault_at, run_fault_words, field_of, layer_of, run_refusal_number, words_of};
+ghost use Rattle.settlement.specs.Faults.{fault_at, run_fault_words, run_refusal_field, run_refusal_layer, run_refusal_number, run_refusal_words};
 ghost use Rattle.settlement.specs.declared.fault.RunRefusal.TheVariants as refused;
 
 use fields::Place;
@@ -49,7 +49,7 @@ impl RunRefusal {
 
     /// The number of the first field that has not its form, where a field is meant.
     pub fn field(self) -> Option<usize>
-        ensures { result ≡ field_of self }
+        ensures { result ≡ run_refusal_field self }
     {
         match self {
             RunRefusal::Line(refusal) => refusal.field(),
@@ -59,7 +59,7 @@ impl RunRefusal {
 
     /// The part of the run that refuses.
     pub fn layer(self) -> Layer
-        ensures { result ≡ layer_of self }
+        ensures { result ≡ run_refusal_layer self }
     {
         match self {
             RunRefusal::Book(_) => Layer::Book,
@@ -70,7 +70,7 @@ impl RunRefusal {
 
 // By hand, here and below: a derive of the kit states no words, and these are proved.
 impl fmt::Display for RunRefusal {
-    ghost output = { λ refusal. Some (words_of refusal) };
+    ghost output = { λ refusal. Some (run_refusal_words refusal) };
 
     fn fmt<W: fmt::Write>(&self, f: &mut fmt::Formatter<W>) -> fmt::Result {
         match self {

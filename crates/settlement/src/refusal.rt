@@ -30,7 +30,7 @@ impl fmt::Display for OutputRefusal {
 
     fn fmt<W: fmt::Write>(&self, f: &mut fmt::Formatter<W>) -> fmt::Result {
         match self {
-            OutputRefusal::Room => write!(f, "the slice has less room than the line is given"),
+            OutputRefusal::Room => write!(f, "the slice has less room than the line asks for"),
         }
     }
 }

@@ -1,4 +1,4 @@
--- What makes a list of shares fair: the law of every sharing rule.
+-- The law of every sharing rule.
 use Rattle.std.specs.Prelude.{◌≡◌, ℕ, ◌+◌, ◌-◌, ◌≤◌, min, List, [], ◌∷◌, length, sum, slice_index}
 
 -- each need has a share, and none a larger one than it asks for; together they use up the pool, or meet all needs where these are less

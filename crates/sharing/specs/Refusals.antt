@@ -39,8 +39,8 @@ parts_meaning Parts = record {
 }
 
 -- a refusal as it is printed
-abbrev pub refusal_words : {Test : Type 0} → Meaning Test → List ℕ
-refusal_words m = decimal m.number ++ (codes ": " ++ m.words)
+abbrev pub refusal_text : {Test : Type 0} → Meaning Test → List ℕ
+refusal_text m = decimal m.number ++ (codes ": " ++ m.words)
 
 -- the answer of a rule's call: the first refusal that stands, else done
 abbrev pub answer : ℕ → List ℕ → ℕ → Result (Unit {0}) ShareRefusal
@@ -53,6 +53,6 @@ abbrev pub parts_answer : List ℕ → Result (Unit {0}) PartsRefusal
 parts_answer parts = if (parts_meaning Parts).stands parts then Err Parts else Ok tt
 
 -- what a list holds after a call that writes it anew or refuses: the new list, or what it held before
-abbrev pub shares_after : {E : Type 0} → Result (Unit {0}) E → List ℕ → List ℕ → List ℕ
-shares_after (Ok done) new before = new
-shares_after (Err refusal) new before = before
+abbrev pub list_after : {E : Type 0} → Result (Unit {0}) E → List ℕ → List ℕ → List ℕ
+list_after (Ok done) new before = new
+list_after (Err refusal) new before = before

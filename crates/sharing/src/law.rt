@@ -6,7 +6,7 @@ pub fn serves_in_order()
     ensures { ServesInOrder }
 {}
 
-/// By proportion no share is 1 kWh or more away from its exact part of what is given.
+/// By proportion no share is 1 kWh or more away from its exact part of what is given, where there is a need at all.
 pub fn shares_within_one()
     ensures { SharesWithinOne }
 {}

@@ -1,7 +1,7 @@
 //! Parts, a layer over any rule.
 ghost use Rattle.std.specs.Prelude.{◌≡◌, ◌≤◌, replicate, sum};
 ghost use Rattle.sharing.specs.Limits.{most_places};
-ghost use Rattle.sharing.specs.Refusals.{parts_answer, shares_after};
+ghost use Rattle.sharing.specs.Refusals.{parts_answer, list_after};
 ghost use Rattle.sharing.specs.Rules.{ahead, with_parts};
 ghost use Rattle.sharing.specs.KeepingTheLaw.{with_parts_keeps_law};
 
@@ -38,7 +38,7 @@ impl<R> Parts<R> {
     /// Sets all parts, or refuses and leaves them as they were.
     pub fn set(&mut self, parts: &[u64]) -> Result<(), PartsRefusal>
         ensures answers { result ≡ parts_answer parts.now }
-        ensures writes { parts_of self.new ≡ shares_after result parts.now (parts_of self.old) }
+        ensures writes { parts_of self.new ≡ list_after result parts.now (parts_of self.old) }
         ensures below { rule_below self.new ≡ rule_below self.old }
     {
         if parts.len() != PLACES || saturating_sum(parts) > WHOLE {

@@ -1,6 +1,6 @@
 //! Why the call that sets the parts is turned away.
 ghost use Rattle.std.specs.Prelude.{◌≡◌, Some};
-ghost use Rattle.sharing.specs.Refusals.{parts_meaning, refusal_words};
+ghost use Rattle.sharing.specs.Refusals.{parts_meaning, refusal_text};
 
 use std::error::Error;
 use std::fmt;
@@ -36,7 +36,7 @@ impl PartsRefusal {
 // By hand: a derive of the kit states no words (`thiserror` states no `output`), and these are proved.
 // Like that of `ShareRefusal`: no one `Display` can serve every type of a trait.
 impl fmt::Display for PartsRefusal {
-    ghost output = { λ refusal. Some (refusal_words (parts_meaning refusal)) };
+    ghost output = { λ refusal. Some (refusal_text (parts_meaning refusal)) };
 
     fn fmt<W: fmt::Write>(&self, f: &mut fmt::Formatter<W>) -> fmt::Result {
         write!(f, "{}: {}", self.number(), self.words())

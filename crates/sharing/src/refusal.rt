@@ -1,6 +1,6 @@
 //! Why a rule's call is turned away.
 ghost use Rattle.std.specs.Prelude.{◌≡◌, Some};
-ghost use Rattle.sharing.specs.Refusals.{meaning, refusal_words};
+ghost use Rattle.sharing.specs.Refusals.{meaning, refusal_text};
 
 use std::error::Error;
 use std::fmt;
@@ -39,7 +39,7 @@ impl ShareRefusal {
 
 // By hand: a derive of the kit states no words (`thiserror` states no `output`), and these are proved.
 impl fmt::Display for ShareRefusal {
-    ghost output = { λ refusal. Some (refusal_words (meaning refusal)) };
+    ghost output = { λ refusal. Some (refusal_text (meaning refusal)) };
 
     fn fmt<W: fmt::Write>(&self, f: &mut fmt::Formatter<W>) -> fmt::Result {
         write!(f, "{}: {}", self.number(), self.words())

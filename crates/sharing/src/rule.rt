@@ -1,7 +1,7 @@
 //! The sharing rule as an interface, and the test that every rule's call begins with.
 ghost use Rattle.std.specs.Prelude.{◌≡◌, ℕ, ◌-◌, min, List, length, sum};
 ghost use Rattle.sharing.specs.Law.{SharingLaw};
-ghost use Rattle.sharing.specs.Refusals.{answer, some_need_over, shares_after};
+ghost use Rattle.sharing.specs.Refusals.{answer, some_need_over, list_after};
 
 use crate::refusal::ShareRefusal;
 
@@ -21,7 +21,7 @@ pub trait SharingRule {
     fn share(&self, pool: u64, needs: &[u64], shares: &mut [u64]) -> Result<(), ShareRefusal>
         ensures answers { result ≡ answer pool needs.now (length shares.old) }
         ensures writes { shares.new
-            ≡ shares_after result (sharing self.now pool needs.now) shares.old };
+            ≡ list_after result (sharing self.now pool needs.now) shares.old };
 
     ghost keeps_law: { (rule : Self) (pool : ℕ) (needs : List ℕ)
         → SharingLaw pool needs (sharing rule pool needs) };
@@ -34,7 +34,7 @@ pub fn admit(pool: u64, needs: &[u64], places: usize) -> Result<(), ShareRefusal
     if needs.is_empty() || needs.len() > PLACES || places != needs.len() {
         return Err(ShareRefusal::Count);
     }
-    if pool > MOST_POOL || some_over(needs) {
+    if pool > MOST_POOL || some_need_over(needs) {
         return Err(ShareRefusal::Size);
     }
     Ok(())
@@ -57,7 +57,7 @@ pub(crate) fn saturating_sum(amounts: &[u64]) -> u64
 }
 
 // Whether a need is over its limit.
-fn some_over(needs: &[u64]) -> bool
+fn some_need_over(needs: &[u64]) -> bool
     ensures { result ≡ some_need_over needs.now }
 {
     needs.iter().any(|need| *need > MOST_NEED)

@@ -2,7 +2,7 @@
 use mathlib.Core.Path.{fun_ext}
 use Rattle.std.proofs.Common.{◌≡◌, ◌∙◌, ℕ, ◌*◌, List, Ok, Result, sym, ap₂, subst}
 use Rattle.balance.specs.Histories.{Event, Opening}
-use Rattle.group.specs.Groups.{opening_group}
+use Rattle.group.specs.Groups.{opening_result}
 use Rattle.group.specs.declared.group.Group.{Group}
 use Rattle.group.specs.declared.refusal.BookRefusal.{BookRefusal}
 use Rattle.settlement.specs.Setups.{SettlesJournal, SettlesFrom, group_of, opening_event as opening_of}
@@ -17,8 +17,8 @@ use Rattle.two.specs.Two.{IsTwo, SettlesTwo, opening_of_two, prices, group_of_tw
 
 opens : (setup : Setup Proportion FixedTariff) → IsTwo setup → group_of setup ≡ Ok group_of_two
 opens setup is =
-    ap₂ (λ n s. opening_group n s setup.holder setup.records.now) is.number is.start
-    ∙ ap₂ (λ h r. opening_group 7 288 h r) is.holder is.records
+    ap₂ (λ n s. opening_result n s setup.holder setup.records.now) is.number is.start
+    ∙ ap₂ (λ h r. opening_result 7 288 h r) is.holder is.records
 
 opened_by : (setup : Setup Proportion FixedTariff) → IsTwo setup → opening_of setup ≡ opening_of_two
 opened_by setup is =

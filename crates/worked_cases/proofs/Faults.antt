@@ -21,7 +21,7 @@ use Rattle.journal.specs.Names.{journal_names}
 use Rattle.worked_cases.proofs.LeapDays.{read_or_refused}
 use Rattle.worked_cases.proofs.Months.{issue_read, reading}
 use Rattle.worked_cases.proofs.Running.{Lines, alone, body_alone, line_done, line_refused}
-use Rattle.worked_cases.specs.Orders.{LengthAtEdge, LinesRefusesInOrder, year_end}
+use Rattle.worked_cases.specs.Orders.{LengthHasAnEdge, LineRefusesInOrder, year_end}
 use Rattle.worked_cases.specs.Runs.{TellsFault, RunsTo, StopsWith}
 use Rattle.settlement.specs.Faults.{fault_at, fault_line}
 use Rattle.settlement.specs.Laws.{HasOneOutcome}
@@ -120,7 +120,7 @@ accepted one =
     (line_done 65484 2 issue bills [] Issue group_of_two issued_group (ended_run issued_group) issue_read issue_done refl)
     (refl, refl)
 
-pub lines_in_order : HasOneOutcome → LinesRefusesInOrder
+pub lines_in_order : HasOneOutcome → LineRefusesInOrder
 unfolding digits
 lines_in_order one = record {
   journal = alone one 4095 year_end (codes "ISSUE\n") [] (codes "FAULT,1,0,TEXT,24\n") (stopped_run 1 refused.Journal year_end) (no_journal no_names) (refl, refl);
@@ -149,5 +149,5 @@ longest one body long =
     (line_refused 65484 2 (10 ∷ []) (text_lines body) (Err (record { line = 2; refusal = reads.Fields })) group_of_two (refused.Line reads.Fields) (refl, few_bytes (10 ∷ []) (lit≤ tt)) refl)
     (refl, refl)
 
-pub length_at_edge : HasOneOutcome → LengthAtEdge
+pub length_at_edge : HasOneOutcome → LengthHasAnEdge
 length_at_edge one = record { too_long = too_long one; longest = longest one }

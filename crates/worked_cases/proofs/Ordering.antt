@@ -1,7 +1,7 @@
 -- What calls come to, in the order of their tests and at the edges of them.
 use Rattle.std.proofs.Common.{refl}
 use Rattle.group.specs.Registers.{quantity}
-use Rattle.worked_cases.specs.Orders.{AmountsAtEdges, ChangeRefusesInOrder, OpeningAtEdges, PhasesInOrder, ReadingRefusesInOrder, ValuesAtEdges}
+use Rattle.worked_cases.specs.Orders.{AmountsHaveEdges, ChangeRefusesInOrder, OpeningHasEdges, PhasesFollowInOrder, ReadingRefusesInOrder, ValuesHaveEdges}
 
 pub reading_in_order : ReadingRefusesInOrder
 unfolding quantity
@@ -11,7 +11,7 @@ pub change_in_order : ChangeRefusesInOrder
 unfolding quantity
 change_in_order = record { no_month = refl; place = refl; full = refl; day = refl; start = refl; value = refl; below = refl; tally = refl; accepted = refl }
 
-pub opening_at_edges : OpeningAtEdges
+pub opening_at_edges : OpeningHasEdges
 opening_at_edges = record {
   no_record = refl;
   one_record = refl;
@@ -30,7 +30,7 @@ opening_at_edges = record {
   night_delivered = refl;
 }
 
-pub amounts_at_edges : AmountsAtEdges
+pub amounts_at_edges : AmountsHaveEdges
 amounts_at_edges = record {
   payment_of_0 = refl;
   payment_of_1 = refl;
@@ -43,9 +43,9 @@ amounts_at_edges = record {
   more_taken = refl;
 }
 
-pub values_at_edges : ValuesAtEdges
+pub values_at_edges : ValuesHaveEdges
 unfolding quantity
 values_at_edges = record { largest = refl; larger = refl; largest_start = refl; larger_start = refl }
 
-pub phases_in_order : PhasesInOrder
+pub phases_in_order : PhasesFollowInOrder
 phases_in_order = record { november = refl; december = refl; last_november = refl; last_december = refl; next_year = refl; no_next_year = refl }

@@ -81,7 +81,7 @@ abbrev opened_at : (day night : ByFlow ℕ) → List OpeningRecord
 opened_at day night = opening_record 1 Household (record { day = day; night = night }) ∷ []
 
 -- how many records there may be, what capacities, which holder and month, and what each register may open at
-pub record OpeningAtEdges : Type 0 where
+pub record OpeningHasEdges : Type 0 where
   pub no_record : opening_in 288 0 [] ≡ Err book.Count
   pub one_record : IsOk (opening_in 288 0 (alike 1 1 0))
   pub records_of_32 : IsOk (opening_in 288 0 (alike 32 1 0))
@@ -186,7 +186,7 @@ pub record PaymentRefusesInOrder : Type 0 where
 
 -- payments and corrections of the household, which owes nothing and has no tally; and the payment that is one dram more than
 -- may be paid in advance
-pub record AmountsAtEdges : Type 0 where
+pub record AmountsHaveEdges : Type 0 where
   pub payment_of_0 : entering group_of_two (Payment 1 0) ≡ Err book.Value
   pub payment_of_1 : entering group_of_two (Payment 1 1) ≡ Ok (january 1 0 (pos 0) (negsuc 0))
   pub largest_payment : entering group_of_two (Payment 1 100000000)
@@ -205,7 +205,7 @@ abbrev high : Group
 high = january 0 9000000 (pos 0) (pos 0)
 
 -- readings of that register, and changes to a new meter
-pub record ValuesAtEdges : Type 0 where
+pub record ValuesHaveEdges : Type 0 where
   pub largest : entering high (Reading (used 1) 8796 9999999)
       ≡ Ok (january 1 9999999 (pos 999999) (pos 0))
   pub larger : entering high (Reading (used 1) 8796 10000000) ≡ Err book.Value
@@ -215,7 +215,7 @@ pub record ValuesAtEdges : Type 0 where
 
 -- ---- drawing, issue and the year's end
 
--- a drawing by proportion, with so many places for lines
+-- a drawing by proportion, with so many places for bills
 abbrev drawing : Group → (places : ℕ) → Result (Stamp × List Bill) BookRefusal
 drawing group places = drawing_result proportion (λ month. prices) places group
 
@@ -225,7 +225,7 @@ issuing group number month entries places =
     let stamp : Stamp = record { number = number; month = month; entries = entries } in
     issue_result proportion (λ month. prices) stamp places group
 
--- with one place for the lines of two members
+-- with one place for the bills of two members
 pub record DrawingRefusesInOrder : Type 0 where
   pub no_month : drawing year_end 1 ≡ Err book.NoMonth
   pub lines : drawing nearly_full 1 ≡ Err book.Bills
@@ -262,7 +262,7 @@ closed_to december =
 
 -- after November 2023 comes December and after that the year end, and so in 2099; after December 2098 comes January 2099, and
 -- after December 2099 nothing
-pub record PhasesInOrder : Type 0 where
+pub record PhasesFollowInOrder : Type 0 where
   pub november : issued_to 286 ≡ Ok (Open 287)
   pub december : issued_to 287 ≡ Ok (YearEnd 287)
   pub last_november : issued_to 1198 ≡ Ok (Open 1199)
@@ -279,7 +279,7 @@ bills_of_nothing =
     ++ (codes "BILL,2024-01,0,0,0,0,0,0,0\n" ++ codes "BILL,2024-01,1,0,0,0,0,0,0\n")
 
 -- an issue that is no line of seven fields, of a text without the line of names, at a year end and without room
-pub record LinesRefusesInOrder : Type 0 where
+pub record LineRefusesInOrder : Type 0 where
   pub journal : RunsTo 4095 year_end (codes "ISSUE\n") [] (codes "FAULT,1,0,TEXT,24\n")
   pub room : RunsTo 4095 year_end (journal_of (codes "ISSUE\n")) [] (codes "FAULT,1,0,TEXT,27\n")
   pub fields : StopsWith 4096 year_end (codes "ISSUE\n") (codes "FAULT,2,0,TEXT,25\n")
@@ -290,7 +290,7 @@ pub record LinesRefusesInOrder : Type 0 where
 
 -- a text of more than 65,536 bytes is no journal, whatever stands behind the line of names; one of 65,536 is one, so that
 -- its run gets as far as its first line
-pub record LengthAtEdge : Type 0 where
+pub record LengthHasAnEdge : Type 0 where
   pub too_long : (body : List ℕ) → 65536 < length (journal_of body)
       → RunsTo 65536 group_of_two (journal_of body) [] (codes "FAULT,1,0,TEXT,24\n")
   pub longest : (body : List ℕ) → length (journal_of (codes "\n" ++ body)) ≡ 65536

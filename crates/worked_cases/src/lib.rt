@@ -3,7 +3,7 @@
 
 ghost use Rattle.worked_cases.specs.Cases.{ChargesByClass, CreditsAsWorked, DatesAsWorked, ReadsAgain, ReadsLeapDayOnly, SharesAsWorked, TalliesAsWorked};
 ghost use Rattle.worked_cases.specs.Numbers.{NumbersRefusals, AsksForRoom};
-ghost use Rattle.worked_cases.specs.Orders.{AmountsAtEdges, ChangeRefusesInOrder, ClosingRefusesInOrder, CorrectionRefusesInOrder, DrawingRefusesInOrder, IssueRefusesInOrder, LengthAtEdge, LinesRefusesInOrder, OpeningAtEdges, OpeningRefusesInOrder, PaymentRefusesInOrder, PhasesInOrder, ReadingRefusesInOrder, SharingRefusesInOrder, ValuesAtEdges};
+ghost use Rattle.worked_cases.specs.Orders.{AmountsHaveEdges, ChangeRefusesInOrder, ClosingRefusesInOrder, CorrectionRefusesInOrder, DrawingRefusesInOrder, IssueRefusesInOrder, LengthHasAnEdge, LineRefusesInOrder, OpeningHasEdges, OpeningRefusesInOrder, PaymentRefusesInOrder, PhasesFollowInOrder, ReadingRefusesInOrder, SharingRefusesInOrder, ValuesHaveEdges};
 ghost use Rattle.worked_cases.specs.Runs.{TellsFault, SettlesMonth, SettlesScarceMonth, SettlesYear};
 
 use settlement::one_outcome;
@@ -32,12 +32,12 @@ pub fn cases_stand()
     ensures drawing_in_order { DrawingRefusesInOrder }
     ensures issue_in_order { IssueRefusesInOrder }
     ensures closing_in_order { ClosingRefusesInOrder }
-    ensures lines_in_order { LinesRefusesInOrder }
-    ensures opening_at_edges { OpeningAtEdges }
-    ensures amounts_at_edges { AmountsAtEdges }
-    ensures values_at_edges { ValuesAtEdges }
-    ensures phases_in_order { PhasesInOrder }
-    ensures length_at_edge { LengthAtEdge }
+    ensures lines_in_order { LineRefusesInOrder }
+    ensures opening_at_edges { OpeningHasEdges }
+    ensures amounts_at_edges { AmountsHaveEdges }
+    ensures values_at_edges { ValuesHaveEdges }
+    ensures phases_in_order { PhasesFollowInOrder }
+    ensures length_at_edge { LengthHasAnEdge }
 {
     lines_stand();
     registers_stand();
@@ -63,8 +63,8 @@ fn runs_stand()
     ensures scarce_settled { SettlesScarceMonth }
     ensures year_settled { SettlesYear }
     ensures fault_told { TellsFault }
-    ensures lines_in_order { LinesRefusesInOrder }
-    ensures length_at_edge { LengthAtEdge }
+    ensures lines_in_order { LineRefusesInOrder }
+    ensures length_at_edge { LengthHasAnEdge }
 {
     one_outcome();
 }
@@ -79,8 +79,8 @@ fn numbers_stand()
 fn orders_stand()
     ensures reading_in_order { ReadingRefusesInOrder }
     ensures change_in_order { ChangeRefusesInOrder }
-    ensures opening_at_edges { OpeningAtEdges }
-    ensures amounts_at_edges { AmountsAtEdges }
-    ensures values_at_edges { ValuesAtEdges }
-    ensures phases_in_order { PhasesInOrder }
+    ensures opening_at_edges { OpeningHasEdges }
+    ensures amounts_at_edges { AmountsHaveEdges }
+    ensures values_at_edges { ValuesHaveEdges }
+    ensures phases_in_order { PhasesFollowInOrder }
 {}
