@@ -1,5 +1,5 @@
 //! The lines of the output that a line of a journal writes.
-ghost use Rattle.std.specs.Prelude.{◌≡◌, ◌+◌, ◌<◌, ◌≤◌, Some, length, slice_get};
+ghost use Rattle.std.specs.Prelude.{◌≡◌, ◌+◌, ◌≤◌, length};
 ghost use Rattle.group.specs.Groups.{most_members};
 ghost use Rattle.cells.specs.Cells.{overwritten_text};
 ghost use Rattle.settlement.specs.Steps.{output_room};
@@ -28,14 +28,6 @@ pub(crate) fn write_whole<F: Figures>(
     end
 }
 
-// The bill at a place. An element that a `for` gives has no such plain name in a proof.
-fn bill_at(bills: &[Bill], place: usize) -> Bill
-    requires { place < length bills.now }
-    ensures { slice_get bills.now place ≡ Some result }
-{
-    bills[place]
-}
-
 // Writes the lines of a month's bills from `at` on, where any 32 such lines have room, and answers the place after them.
 pub(crate) fn write_bills(month: Month, bills: &[Bill], out: &mut [u8], at: usize) -> usize
     requires few { length bills.now ≤ most_members }
@@ -45,8 +37,8 @@ pub(crate) fn write_bills(month: Month, bills: &[Bill], out: &mut [u8], at: usiz
     ensures within_room { length (bills_text month bills.now) ≤ output_room }
 {
     let mut end = at;
-    for place in 0..bills.len() {
-        end = write_whole(month, place, bill_at(bills, place), out, end);
+    for (place, bill) in bills.iter().enumerate() {
+        end = write_whole(month, place, *bill, out, end);
     }
     end
 }

@@ -1,4 +1,6 @@
-use Rattle.std.proofs.Common.{arith}
+use Rattle.std.proofs.Common.{◌<◌, arith, length}
+use Rattle.std.proofs.lemmas.Grind.{common_steps}
+use Rattle.std.proofs.lemmas.Option.{slice_get-get_or}
 use Rattle.settlement.proofs.Billing.{all_bills, none_so_far, one_more}
 use Rattle.settlement.proofs.bills.write_bills.Goals as goal
 
@@ -12,7 +14,8 @@ write_whole-end-requires c =
 
 pub loop-place-preserved : goal.loop-place-preserved
 loop-place-preserved c =
-    one_more _ _ _ _ _ _ _ _ _ _ c.bill_at.ensures (omega (arith, c.requires.room)) c.loop-place.invariant c.write_whole-end.ensures.end c.write_whole-end.ensures.text c.write_whole-end.ensures.within_128
+    let inside : c.loop-place.place < length c.args.bills.now = grind (arith, common_steps) in
+    one_more _ _ _ _ _ _ _ _ _ _ (slice_get-get_or _ _ _ inside) (omega (arith, c.requires.room)) c.loop-place.invariant c.write_whole-end.ensures.end c.write_whole-end.ensures.text c.write_whole-end.ensures.within_128
 
 pub returns-clause-end : goal.returns-clause-end
 returns-clause-end c = (all_bills _ _ _ _ _ _ _ (omega arith) c.loop-place.invariant).0.stop
