@@ -107,17 +107,17 @@ unfolding quantity
 quantity_counts standing value kwh is = grind (arith, ints, nat_tests)
 
 -- a reading adds its quantity
-read_adds : (month day value next : ℕ) (r after : Register) → with_reading month day value next r ≡ Ok after → (kwh : ℕ) × (quantity r.standing value ≡ Some kwh) × (after.tally ≡ r.tally +ℤ pos kwh)
-read_adds month day value next r after is = grind (arith, nat_tests, common_steps)
+read_adds : (month day value start : ℕ) (r after : Register) → with_reading month day value start r ≡ Ok after → (kwh : ℕ) × (quantity r.standing value ≡ Some kwh) × (after.tally ≡ r.tally +ℤ pos kwh)
+read_adds month day value start r after is = grind (arith, nat_tests, common_steps)
 
 -- so it adds what the meter counts
-read_counts : (month day value next : ℕ) (r after : Register) → with_reading month day value next r ≡ Ok after → after.tally ≡ r.tally +ℤ counted_between r.standing value
-read_counts month day value next r after is =
-    let (kwh, is_quantity, adds) = read_adds month day value next r after is in
+read_counts : (month day value start : ℕ) (r after : Register) → with_reading month day value start r ≡ Ok after → after.tally ≡ r.tally +ℤ counted_between r.standing value
+read_counts month day value start r after is =
+    let (kwh, is_quantity, adds) = read_adds month day value start r after is in
     adds ∙ ap (λ n. r.tally +ℤ n) (quantity_counts r.standing value kwh is_quantity)
 
-read_stands : (month day value next : ℕ) (r after : Register) → with_reading month day value next r ≡ Ok after → after.standing ≡ next
-read_stands month day value next r after is = grind (arith, nat_tests, common_steps)
+read_stands : (month day value start : ℕ) (r after : Register) → with_reading month day value start r ≡ Ok after → after.standing ≡ start
+read_stands month day value start r after is = grind (arith, nat_tests, common_steps)
 
 corrected_counts : (kwh : ℤ) (r after : Register) → with_correction kwh r ≡ Ok after → after.tally ≡ r.tally +ℤ kwh
 corrected_counts kwh r after is = grind (arith, nat_tests, common_steps)
@@ -161,23 +161,23 @@ either_way false x n same = refl
 unmoved : (posted : List AcceptedCall) (of at : MemberRegister) (n : ℕ) → n ≡ last_value posted of → last_value posted at ≡ (if same_register of at then n else last_value posted at)
 unmoved posted of at n is = either_way (same_register of at) (last_value posted at) n (λ same. is ∙ ap (last_value posted) (registers_are of at same))
 
--- an entry that reads a register, which then stands at the next value
-read_kept : (prices : ℕ → Prices) (posted : List AcceptedCall) (old new : Group) (month : ℕ) (entry : Entry) (of : MemberRegister) (day value next : ℕ)
+-- an entry that reads a register, which then stands at the start value
+read_kept : (prices : ℕ → Prices) (posted : List AcceptedCall) (old new : Group) (month : ℕ) (entry : Entry) (of : MemberRegister) (day value start : ℕ)
     → Kept prices posted old
     → old.phase ≡ Open month
-    → entry_result of.place (on_register of (with_reading month day value next)) old ≡ Ok new
+    → entry_result of.place (on_register of (with_reading month day value start)) old ≡ Ok new
     → energy_of posted entry ≡ Some (of, counted_between (last_value posted of) value)
-    → ((at : MemberRegister) → last_value (Entered entry ∷ posted) at ≡ (if same_register of at then next else last_value posted at))
+    → ((at : MemberRegister) → last_value (Entered entry ∷ posted) at ≡ (if same_register of at then start else last_value posted at))
     → ((place : ℕ) → amount_owed prices place (Entered entry ∷ posted) ≡ amount_owed prices place posted)
     → Kept prices (Entered entry ∷ posted) new
-read_kept prices posted old new month entry of day value next kept opened is told lasts owes =
-    let (member, changed, found, stepped, same) = altered_found of.place (on_register of (with_reading month day value next)) old new is in
-    let (register, took, becomes) = made_ok (λ (r : Register). with_register of r member) (with_reading month day value next (register_at of member)) changed stepped in
+read_kept prices posted old new month entry of day value start kept opened is told lasts owes =
+    let (member, changed, found, stepped, same) = altered_found of.place (on_register of (with_reading month day value start)) old new is in
+    let (register, took, becomes) = made_ok (λ (r : Register). with_register of r member) (with_reading month day value start (register_at of member)) changed stepped in
     let stood = kept.standings of member found in
-    let stands = read_stands month day value next (register_at of member) register took in
+    let stands = read_stands month day value start (register_at of member) register took in
     subst (λ g. Kept prices (Entered entry ∷ posted) g) same (subst (λ m. Kept prices (Entered entry ∷ posted) (entry_group of.place m old)) becomes
     (register_entered prices posted old entry month of (counted_between (register_at of member).standing value) member register kept opened found
-    (read_counts month day value next (register_at of member) register took)
+    (read_counts month day value start (register_at of member) register took)
     (told ∙ ap (λ n. Some (of, counted_between n value)) (sym stood))
     (λ at. lasts at ∙ ap (λ n. if same_register of at then n else last_value posted at) (sym stands))
     owes))

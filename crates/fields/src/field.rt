@@ -1,8 +1,12 @@
 //! A field of a line.
-ghost use Rattle.std.specs.Prelude.{◌≡◌};
+ghost use Rattle.std.specs.Prelude.{◌≡◌, Some};
+ghost use Rattle.fields.specs.Places.{wrong_field_words};
 ghost use Rattle.fields.specs.Tokens.{IsFieldOf, IsTokenOf};
 
+use crate::place::Place;
 use crate::token::{Token, token_of};
+use std::error::Error;
+use std::fmt;
 
 /// A part of a text, with its line and its number in that line, both counted from 1.
 #[derive(Clone, Copy, Debug)]
@@ -23,6 +27,20 @@ pub struct WrongField {
     /// The number of the field in its line, counted from 1.
     pub number: usize,
 }
+
+// By hand: a derive of the kit states no words, and these are proved.
+impl fmt::Display for WrongField {
+    ghost output = { λ wrong. Some (wrong_field_words wrong) };
+
+    fn fmt<W: fmt::Write>(&self, f: &mut fmt::Formatter<W>) -> fmt::Result {
+        let WrongField { line, number } = *self;
+        let field = Some(number);
+        let place = Place { line, field };
+        write!(f, "{place}: this field is spelled wrong")
+    }
+}
+
+impl Error for WrongField {}
 
 impl<'a> Field<'a> {
     /// The field with this line and this number in it.
