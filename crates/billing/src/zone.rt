@@ -1,5 +1,5 @@
 //! A zone's month: its pool is shared among the needs, and what is left is carried on.
-ghost use Rattle.std.specs.Prelude.{◌≡◌, ◌≤◌, length, IfOk, if◌then◌else◌, Ok, Err, nat_lt};
+ghost use Rattle.std.specs.Prelude.{◌≡◌, ◌≤◌, [], length, IfOk, if◌then◌else◌, Ok, Err, nat_lt};
 ghost use Rattle.sharing.specs.Law.{less};
 ghost use Rattle.sharing.specs.Limits.{most_places};
 ghost use Rattle.sharing.specs.declared.refusal.ShareRefusal.TheVariants.{Size};
@@ -16,16 +16,15 @@ fn is_counted(members: usize, to_cover: usize, to_bill: usize) -> bool
     members > 0 && members <= PLACES && to_cover == members && to_bill == members
 }
 
-// The needs of the nets.
-fn needs_in(nets: &[i64]) -> ArrayVec<u64, PLACES>
-    requires { length nets.now ≤ most_places }
-    ensures { result.items ≡ needs_of nets.now }
+// Writes the needs of the nets into a vector that is empty. It is lent, since one that is handed out is copied.
+fn put_needs(nets: &[i64], needs: &mut ArrayVec<u64, PLACES>)
+    requires few { length nets.now ≤ most_places }
+    requires none { needs.old.items ≡ [] }
+    ensures { needs.new.items ≡ needs_of nets.now }
 {
-    let mut needs = ArrayVec::new();
     for net in nets {
         needs.push(need_of(*net));
     }
-    needs
 }
 
 // The pool of a zone, or the refusal of one that is too large to be shared.
@@ -75,7 +74,8 @@ pub fn settle_zone<R: SharingRule>(
     if !is_counted(nets.len(), covered.len(), billed.len()) {
         return Err(ShareRefusal::Count);
     }
-    let needs = needs_in(nets);
+    let mut needs = ArrayVec::new();
+    put_needs(nets, &mut needs);
     let pool = pool_in(carried, nets)?;
     rule.share(pool, &needs, covered)?;
     bill(&needs, covered, billed);
