@@ -1,3 +1,4 @@
+mod Counting
 mod Dating
 pub mod Forming
 pub mod Lacking

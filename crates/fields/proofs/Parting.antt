@@ -1,10 +1,11 @@
 -- The commas part a text in one way only.
-use Rattle.std.proofs.Common.{◌≡◌, ℕ, suc, true, List, [], ◌∷◌, ◌++◌, length, is_some, Some, None, Option, sym, refl, ap, ◌∙◌, subst, ap₂, arith, Bor}
+use Rattle.std.proofs.Common.{◌+◌, ◌<◌, set, take, append_assoc, ◌≡◌, ℕ, List, [], ◌∷◌, ◌++◌, length, sym, refl, ap, ◌∙◌, subst, ap₂, arith, Bor}
+use Rattle.fields.proofs.Counting.{commas_in, first_counted, none_counted}
 use Rattle.fields.proofs.Lacking.{cut_once, no_mark}
-use Rattle.fields.specs.Cuts.{Cuts, Lacks}
-use Rattle.fields.specs.Partings.{IsParted}
+use Rattle.fields.specs.Cuts.{Lacks}
+use Rattle.fields.specs.Partings.{IsParted, part_texts}
 use Rattle.fields.specs.Rows.{texts_row}
-use Rattle.std.proofs.lemmas.Bool.{false≢true}
+use Rattle.std.proofs.lemmas.List.{length-set, map-append, take_all, take_more_set}
 use Rattle.std.proofs.lemmas.List.Elements.{All-cons, All-head, All-nil, All-tail}
 
 -- the first of the texts has no comma
@@ -37,33 +38,29 @@ pub cut_more : {bs field rest : List ℕ} → (bs ≡ field ++ (44 ∷ rest)) ×
 cut_more {bs} {field} {rest} cut [] is = absurd (omega (arith, is.some))
 cut_more {bs} {field} {rest} cut (next ∷ texts) is = one_more cut refl is
 
--- no so many texts are parted by the commas of the bytes
-abbrev pub NotIn : ℕ → List ℕ → Type 0
-NotIn n bs = (texts : List (List ℕ)) → length texts ≡ n → IsParted texts bs → ⊥
+-- there is one text more than commas
+pub texts_counted : (texts : List (List ℕ)) (bs : List ℕ) → IsParted texts bs → length texts ≡ commas_in bs + 1
+texts_counted [] bs is = absurd (omega (arith, is.some))
+texts_counted (text ∷ []) bs is = omega (arith, none_counted text (first_lacks is), ap commas_in is.whole)
+texts_counted (text ∷ next ∷ texts) bs is =
+    let rest = texts_row (next ∷ texts) in
+    omega (arith, texts_counted (next ∷ texts) rest (rest_parted is refl), first_counted text rest (first_lacks is), ap commas_in is.whole)
 
--- without a comma there is one text
-pub one_alone : (bs : List ℕ) (n : ℕ) → Lacks 44 bs → NotIn (suc (suc n)) bs
-one_alone bs n lacks [] count is = omega arith
-one_alone bs n lacks (text ∷ []) count is = omega arith
-one_alone bs n lacks (text ∷ next ∷ texts) count is = no_mark 44 text (texts_row (next ∷ texts)) bs lacks is.whole
+-- the fields before a place, with any texts that part the rest, part the bytes
+abbrev pub Leads : List (Bor (List ℕ)) → ℕ → List ℕ → List ℕ → Type 0
+Leads fields place rest bs = (texts : List (List ℕ)) → IsParted texts rest → IsParted (part_texts (take place fields) ++ texts) bs
 
--- with a comma there are more
-more_than_one : (bs field rest : List ℕ) → bs ≡ field ++ (44 ∷ rest) → NotIn 1 bs
-more_than_one bs field rest e [] count is = omega arith
-more_than_one bs field rest e (text ∷ []) count is = no_mark 44 field rest text (first_lacks is) (sym is.whole ∙ e)
-more_than_one bs field rest e (text ∷ next ∷ texts) count is = omega arith
+-- so do those with the field that the first comma of the rest ends
+pub leads_on : {bs rest after : List ℕ} (fields : List (Bor (List ℕ))) (place : ℕ) (field : Bor (List ℕ)) → place < length fields → (rest ≡ field.now ++ (44 ∷ after)) × Lacks 44 field.now → Leads fields place rest bs → Leads (set fields place field) (place + 1) after bs
+leads_on {bs} {rest} {after} fields place field within cut leads texts is =
+    subst (λ parts. IsParted (part_texts parts ++ texts) bs) (sym (take_more_set fields place field within))
+    (simp (map-append, append_assoc) (leads (field.now ∷ texts) (cut_more cut texts is)))
 
-pub comma_found : (bs : List ℕ) (r : Option (Bor (List ℕ) × Bor (List ℕ))) → Cuts 44 bs r → is_some r ≡ true → NotIn 1 bs
-comma_found bs None cuts some = absurd (false≢true some)
-comma_found bs (Some p) cuts some = more_than_one bs p.0.now p.1.now cuts.0
-
--- the first comma leaves one text fewer
-pub one_fewer : (bs field rest : List ℕ) (n : ℕ) → bs ≡ field ++ (44 ∷ rest) → Lacks 44 field → NotIn (suc n) rest → NotIn (suc (suc n)) bs
-one_fewer bs field rest n e lacks fewer [] count is = omega arith
-one_fewer bs field rest n e lacks fewer (text ∷ []) count is = omega arith
-one_fewer bs field rest n e lacks fewer (text ∷ next ∷ texts) count is =
-    let same = cut_once 44 field text rest (texts_row (next ∷ texts)) lacks (first_lacks is) (sym e ∙ is.whole) in
-    fewer (next ∷ texts) (omega arith) (rest_parted is same.1)
+-- with the rest as the last field, all of them part the bytes
+pub leads_to_all : {bs : List ℕ} (fields : List (Bor (List ℕ))) (place : ℕ) (rest : Bor (List ℕ)) → place + 1 ≡ length fields → Lacks 44 rest.now → Leads fields place rest.now bs → IsParted (part_texts (set fields place rest)) bs
+leads_to_all {bs} fields place rest last lacks leads =
+    let all : set fields place rest ≡ take place fields ++ (rest ∷ []) = sym (take_all (place + 1) (set fields place rest) (omega (arith, length-set {A = Bor (List ℕ)}))) ∙ take_more_set fields place rest (omega arith) in
+    subst (λ parts. IsParted (part_texts parts) bs) (sym all) (simp map-append (leads (rest.now ∷ []) (one_text lacks refl)))
 
 -- two partings of the same bytes are the same
 pub one_parting : (bs text other : List ℕ) (texts others : List (List ℕ)) → IsParted (text ∷ texts) bs → IsParted (other ∷ others) bs → text ∷ texts ≡ other ∷ others

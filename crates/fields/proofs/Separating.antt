@@ -17,7 +17,7 @@ pub record FirstAt (separator : ℕ) (bs : List ℕ) (j : ℕ) : Type 0 where
 abbrev pub First : ℕ → ℕ → List ℕ → Option ℕ → Type 0
 First separator low bs r = MatchOption r (Lacks separator bs) (λ i. (j : ℕ) × ((i ≡ low + j) × FirstAt separator bs j))
 
-lacks_after : (separator b : ℕ) (bs : List ℕ) → (b ≡ separator → ⊥) → Lacks separator bs → Lacks separator (b ∷ bs)
+pub lacks_after : (separator b : ℕ) (bs : List ℕ) → (b ≡ separator → ⊥) → Lacks separator bs → Lacks separator (b ∷ bs)
 lacks_after separator b bs other none zero h is = other is
 lacks_after separator b bs other none (suc k) h is = none k (omega arith) is
 

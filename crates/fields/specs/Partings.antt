@@ -1,6 +1,6 @@
 -- How commas part a text.
 use Rattle.std.specs.Borrow.{Bor}
-use Rattle.std.specs.Prelude.{All, ◌≡◌, ℕ, ◌+◌, ◌<◌, List, length, map, drop, Option, MatchOption}
+use Rattle.std.specs.Prelude.{All, ◌≡◌, ℕ, ◌<◌, List, length, map, Option, MatchOption}
 use Rattle.fields.specs.Bytes.{comma}
 use Rattle.fields.specs.Cuts.{Lacks}
 use Rattle.fields.specs.Rows.{texts_row}
@@ -22,11 +22,3 @@ CutsInto bs old r new =
     MatchOption r
     (((texts : List (List ℕ)) → length texts ≡ length old → IsParted texts bs → ⊥) × (new ≡ old))
     (λ done. (length new ≡ length old) × IsParted (part_texts new) bs)
-
--- the same of the fields from a place on: for the contracts of private functions alone
-abbrev pub CutsFrom : List ℕ → (at : ℕ)
-    → (old : List (Bor (List ℕ))) → Option (Unit {0}) → (new : List (Bor (List ℕ))) → Type 0
-CutsFrom bs at old r new =
-    MatchOption r
-    (((texts : List (List ℕ)) → at + length texts ≡ length old → IsParted texts bs → ⊥) × (new ≡ old))
-    (λ done. (length new ≡ length old) × IsParted (part_texts (drop at new)) bs)

@@ -14,7 +14,8 @@ pub const ZERO: u8 = b'0';
 
 pub(crate) const NINE: u8 = b'9';
 
-const TEN: u64 = 10;
+/// How many digits there are.
+pub const BASE: u64 = 10;
 
 // Functions and no `TryFrom`: a number is read within a limit that its caller gives.
 
@@ -75,7 +76,7 @@ fn followed(front: u64, byte: u8) -> Option<u64>
         SomeIff result (IsInRange 48 57 byte × (value < 2 ^ 64)) value }
 {
     let ones = digit(byte)?;
-    front.checked_mul(TEN)?.checked_add(ones as u64)
+    front.checked_mul(BASE)?.checked_add(ones as u64)
 }
 
 // The value of a digit.

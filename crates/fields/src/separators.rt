@@ -1,12 +1,14 @@
 //! Finds the commas and the line feeds of a text.
-ghost use Rattle.std.specs.Prelude.{◌≡◌, ◌==◌, ◌<◌, length};
+ghost use Rattle.std.specs.Prelude.{◌≡◌, ◌+◌, ◌==◌, ◌<◌, ◌≤◌, ◌↔◌, IsTrue, length};
 ghost use Rattle.fields.specs.Bytes.{comma, line_feed};
 ghost use Rattle.fields.specs.Cuts.{IsAround, Cuts};
 ghost use Rattle.fields.specs.Separators.{IsNext, IsNextLineFeed};
-ghost use Rattle.fields.specs.Partings.{CutsFrom, CutsInto};
-ghost use Rattle.std.specs.List.{position_from};
+ghost use Rattle.fields.specs.Partings.{CutsInto};
+ghost use Rattle.std.specs.List.{count_by, position_from};
+ghost use Rattle.std.specs.Simd.Lanes.{chunk};
 
 use memchr::memchr;
+use std::simd::prelude::*;
 
 /// What parts the fields of a line.
 pub const COMMA: u8 = b',';
@@ -16,6 +18,9 @@ pub const LINE_FEED: u8 = b'\n';
 
 /// What stands for a missing field, before a number below 0, and in a date.
 pub const HYPHEN: u8 = b'-';
+
+// How many bytes are looked at together where commas are counted.
+const BLOCK: usize = 16;
 
 /// The text before the first comma and the text after it, or none where there is no comma.
 pub fn cut(text: &[u8]) -> Option<(&[u8], &[u8])>
@@ -34,25 +39,60 @@ pub fn cut_into<'a>(text: &'a [u8], fields: &mut [&'a [u8]]) -> Option<()>
     if fields.is_empty() {
         return None;
     }
-    cut_from(text, fields, 0)
+    // It has one more than commas, which are counted before the first field is written: a text with more or fewer writes none.
+    let last = fields.len() - 1;
+    if !has_commas(text, last) {
+        return None;
+    }
+    let mut rest = text;
+    for place in 0..last {
+        let Some((field, after)) = cut(rest) else {
+            unreachable!()
+        };
+        fields[place] = field;
+        rest = after;
+    }
+    fields[last] = rest;
+    Some(())
 }
 
-// The same for the fields from `at` on. Each is written once those after it are, so that a text with more or fewer writes none.
-fn cut_from<'a>(text: &'a [u8], fields: &mut [&'a [u8]], at: usize) -> Option<()>
-    requires { at < length fields.old }
-    ensures { CutsFrom text.now at fields.old result fields.new }
+// Whether the text has just so many commas. They are counted by blocks, which takes half of what a count byte by byte takes, and a text with more is not gone through to its end.
+fn has_commas(text: &[u8], count: usize) -> bool
+    ensures { IsTrue result ↔ (count_by (λ byte. byte == comma) text.now ≡ count) }
 {
-    if at + 1 == fields.len() {
-        if cut(text).is_some() {
-            return None;
+    let blocks = text.len() / BLOCK;
+    let mut total = 0;
+    for block in 0..blocks {
+        total += commas_of_block(text, BLOCK * block) as usize;
+        if total > count {
+            return false;
         }
-        fields[at] = text;
-        return Some(());
     }
-    let (field, rest) = cut(text)?;
-    cut_from(rest, fields, at + 1)?;
-    fields[at] = field;
-    Some(())
+    total + commas_of_few(&text[BLOCK * blocks..]) == count
+}
+
+// How many bytes of the block from `at` on are commas.
+fn commas_of_block(text: &[u8], at: usize) -> u32
+    requires { at + 16 ≤ length text.now }
+    ensures { result ≡ count_by (λ byte. byte == comma) (chunk at 16 text.now) }
+{
+    u8x16::from_slice(&text[at..])
+        .simd_eq(u8x16::splat(COMMA))
+        .to_bitmask()
+        .count_ones()
+}
+
+// How many commas a short text has.
+fn commas_of_few(text: &[u8]) -> usize
+    ensures { result ≡ count_by (λ byte. byte == comma) text.now }
+{
+    let mut total = 0;
+    for byte in text {
+        if *byte == COMMA {
+            total += 1;
+        }
+    }
+    total
 }
 
 // Not one `cut` with the separator as a parameter: the line feed has one search of its own, which every reader of lines goes through.
