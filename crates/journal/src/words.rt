@@ -1,5 +1,5 @@
 //! The words of a journal, read and told.
-ghost use Rattle.std.specs.Prelude.{◌≡◌, ℕ, List, Contains};
+ghost use Rattle.std.specs.Prelude.{◌≡◌, ◌↔◌, ℕ, List, Contains, IsTrue};
 ghost use Rattle.fields.specs.Reads.{Reads};
 ghost use Rattle.fields.specs.Tokens.{LooksLikeWord};
 ghost use Rattle.std.proofs.Common.{rules};
@@ -32,8 +32,15 @@ pub trait Worded: Copy + 'static {
         Self::all()
             .iter()
             .copied()
-            .find(|value| value.word() == word)
+            .find(|value| is_same(value.word(), word))
     }
+}
+
+// Whether the words are the same. Not `==`, which for slices of four bytes and more is a call: this is compiled into the search, which knows its words.
+fn is_same(word: &[u8], other: &[u8]) -> bool
+    ensures { IsTrue result ↔ (word.now ≡ other.now) }
+{
+    word.len() == other.len() && word.iter().zip(other).all(|(byte, other)| byte == other)
 }
 
 impl Worded for Zone {
