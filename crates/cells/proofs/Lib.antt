@@ -1,2 +1,3 @@
 pub mod Overwriting
 mod Joining
+mod Figures

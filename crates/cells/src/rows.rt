@@ -4,7 +4,7 @@ ghost use Rattle.cells.specs.Cells.{Puts, WritesWhereItFits, cell_text};
 ghost use Rattle.fields.specs.Rows.{line_of};
 ghost use Rattle.std.specs.Option.{SomeIff};
 
-use crate::texts::Buffer;
+use crate::texts::{Buffer, length_of};
 use calendar::{Date, Month};
 use fields::{COMMA, LINE_FEED};
 
@@ -49,12 +49,11 @@ pub fn write_row(cells: &[Cell<'_>], out: &mut [u8], at: usize) -> Option<usize>
 pub fn write_cell(cell: Cell<'_>, out: &mut [u8], at: usize) -> Option<usize>
     ensures { WritesWhereItFits out.old at (cell_text cell.entry) out.new result }
 {
-    let mut buffer = Buffer::new();
-    let text = buffer.text(cell);
-    if !has_room(out, at, text.len()) {
+    if !has_room(out, at, length_of(cell)) {
         return None;
     }
-    Some(put(text, out, at))
+    let mut buffer = Buffer::new();
+    Some(put(buffer.text(cell), out, at))
 }
 
 // Whether the slice has room for so many bytes from `at` on.
@@ -70,13 +69,10 @@ fn row_length(cells: &[Cell<'_>]) -> Option<usize>
     ensures { let line = line_of (map cell_text cells.now) in
         SomeIff result (length line < 2 ^ 64) (length line) }
 {
-    let mut buffer = Buffer::new();
     let mut length: usize = 0;
     for cell in cells {
         // One more for the comma or the line feed after the cell.
-        length = length
-            .checked_add(buffer.text(*cell).len())?
-            .checked_add(1)?;
+        length = length.checked_add(length_of(*cell))?.checked_add(1)?;
     }
     // No cells are the line feed alone.
     Some(length.max(1))
@@ -87,6 +83,11 @@ fn put(text: &[u8], out: &mut [u8], at: usize) -> usize
     requires { at + length text.now ≤ length out.old }
     ensures { Puts out.old at text.now out.new result }
 {
+    // One byte, as a comma, a hyphen or a digit, is set: to copy it would be a call.
+    if let [byte] = text {
+        out[at] = *byte;
+        return at + 1;
+    }
     let end = at + text.len();
     out[at..end].copy_from_slice(text);
     end

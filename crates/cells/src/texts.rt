@@ -1,6 +1,7 @@
 //! Makes the text of a cell.
-ghost use Rattle.std.specs.Prelude.{◌≡◌, ◌+◌, ◌%◌, ◌∷◌, []};
+ghost use Rattle.std.specs.Prelude.{◌≡◌, ◌+◌, ◌%◌, ◌≤◌, ◌∷◌, [], decimal, length};
 ghost use Rattle.cells.specs.Cells.{cell_text};
+ghost use Rattle.std.specs.Fmt.{signed_decimal};
 ghost use Rattle.fields.specs.Texts.{date_text, four_digits, two_digits};
 
 use crate::rows::Cell;
@@ -46,6 +47,39 @@ impl Buffer {
             }
         }
     }
+}
+
+// How many bytes a cell takes. They are counted: to measure its text would be to make it twice for a line, once to see that there is room.
+pub(crate) fn length_of(cell: Cell<'_>) -> usize
+    ensures { result ≡ length (cell_text cell.entry) }
+{
+    match cell {
+        Cell::Missing => 1,
+        Cell::Word(word) => word.len(),
+        Cell::Number(n) => digits(n),
+        Cell::Signed(z) => signed_length(z),
+        Cell::Date(_) => DATE_LENGTH,
+        Cell::Month(_) => MONTH_LENGTH,
+    }
+}
+
+// How many digits a number needs.
+fn digits(n: u64) -> usize
+    ensures digits { result ≡ length (decimal n) }
+    ensures few { result ≤ 20 }
+{
+    match n.checked_ilog10() {
+        Some(power) => power as usize + 1,
+        None => 1,
+    }
+}
+
+// How many bytes a signed number takes.
+fn signed_length(z: i64) -> usize
+    ensures { result ≡ length (signed_decimal z) }
+{
+    let digits = digits(z.unsigned_abs());
+    if z < 0 { digits + 1 } else { digits }
 }
 
 // The text of a date.
