@@ -1,6 +1,6 @@
 -- One place more of the layer of parts, and what it hands to the rule below.
-use Rattle.std.proofs.Common.{◌≡◌, ℕ, zero, suc, ◌+◌, ◌-◌, ◌<◌, ◌≤◌, List, [], ◌∷◌, ◌++◌, length, get_or, drop, set, sum, sym, refl, ap, ◌∙◌, append-nil, append_assoc, add-zero, add-one, arith}
-use Rattle.std.proofs.lemmas.List.{drop_more, drop_all, drop-drop, drop-set-lt, get_or-drop, length_push}
+use Rattle.std.proofs.Common.{◌≡◌, ℕ, zero, suc, ◌+◌, ◌-◌, ◌<◌, ◌≤◌, List, [], ◌∷◌, ◌++◌, length, get_or, take, drop, set, sum, sym, refl, ap, ◌∙◌, append-nil, length-set, add-zero, add-one, arith}
+use Rattle.std.proofs.lemmas.List.{drop_more, drop_all, drop-drop, drop-set-lt, get_or-drop}
 use Rattle.sharing.specs.Law.{plus, less}
 use Rattle.sharing.specs.Rules.{ahead, reserved}
 use Rattle.sharing.proofs.Admission.{Admitted}
@@ -26,12 +26,12 @@ at_start xs ys k same =
     sym (front xs) ∙ ap (λ l. get_or l 0 0) same ∙ front ys
 
 -- so far the places before this one have what they get ahead set aside: from the pool, of which left is what remains,
--- and from their needs, of which rest is what remains
+-- and from their needs, of which the front of rest is what remains
 pub record Aside (pool : ℕ) (parts ns : List ℕ) (place left : ℕ) (rest : List ℕ) (total : ℕ) (whole : List ℕ) : Type 0 where
-  pub count : length rest ≡ place
+  pub long : length rest ≡ 32
   pub fits : sum (from pool parts ns place) ≤ left
   pub same : left - sum (from pool parts ns place) ≡ total
-  pub written : rest ++ less (drop place ns) (from pool parts ns place) ≡ whole
+  pub begun : Begun rest place (less (drop place ns) (from pool parts ns place)) whole
 
 -- own is what the place gets ahead of the others
 module _ (pool : ℕ) (parts ns : List ℕ) (place own : ℕ) (within : place < length ns) (is : own ≡ ahead pool (get_or parts place 0) (get_or ns place 0)) where
@@ -43,17 +43,17 @@ module _ (pool : ℕ) (parts ns : List ℕ) (place own : ℕ) (within : place < 
   own_fits left fits = omega (arith, fits, ap sum from_more ∙ sum_cons own (from pool parts ns (place + 1)))
 
   -- one place more is set aside from the pool and from the needs
-  pub aside_more : (left : ℕ) (rest next : List ℕ) (total : ℕ) (whole : List ℕ) → Aside pool parts ns place left rest total whole →
-      next ≡ rest ++ ((get_or ns place 0 - own) ∷ []) → Aside pool parts ns (place + 1) (left - own) next total whole
-  aside_more left rest next total whole so_far pushed =
+  pub aside_more : (left : ℕ) (rest : List ℕ) (total : ℕ) (whole : List ℕ) → length ns ≤ 32 → Aside pool parts ns place left rest total whole →
+      Aside pool parts ns (place + 1) (left - own) (set rest place (get_or ns place 0 - own)) total whole
+  aside_more left rest total whole few so_far =
       let after = from pool parts ns (place + 1) in
       let aside = ap sum from_more ∙ sum_cons own after in
-      let needs = ap (less (drop place ns)) from_more ∙ ap (λ l. less l (own ∷ after)) (drop_more ns place 0 within) in
+      let next = ap (less (drop place ns)) from_more ∙ ap (λ l. less l (own ∷ after)) (drop_more ns place 0 within) in
       record {
-        count = ap length pushed ∙ length_push rest _ ∙ ap (λ n. n + 1) so_far.count;
+        long = length-set _ _ _ ∙ so_far.long;
         fits = omega (arith, aside, so_far.fits);
         same = omega (arith, aside, so_far.same);
-        written = ap (λ l. l ++ less (drop (place + 1) ns) after) pushed ∙ append_assoc rest _ _ ∙ ap (λ l. rest ++ l) (sym needs) ∙ so_far.written;
+        begun = begun_more rest place _ whole so_far.begun _ _ (omega (arith, so_far.long)) next;
       }
 
   -- one place more gets its amount added to its share
@@ -74,11 +74,13 @@ module _ (pool : ℕ) (parts ns : List ℕ) (place : ℕ) (done : length ns ≤ 
   from_all : from pool parts ns place ≡ []
   from_all = ap (reserved pool (drop place parts)) (drop_all place ns done)
 
-  pub all_aside : (left : ℕ) (rest : List ℕ) (total : ℕ) (whole : List ℕ) → Aside pool parts ns place left rest total whole → (left ≡ total) × (rest ≡ whole)
-  all_aside left rest total whole aside = (
-    omega (arith, aside.same, ap sum from_all),
-    sym (append-nil rest) ∙ ap (λ l. rest ++ l) (sym (ap (λ l. less l (from pool parts ns place)) (drop_all place ns done))) ∙ aside.written,
-  )
+  pub all_aside : (left : ℕ) (rest : List ℕ) (total : ℕ) (whole : List ℕ) → place ≤ length ns → Aside pool parts ns place left rest total whole → (left ≡ total) × (take (length ns) rest ≡ whole)
+  all_aside left rest total whole last aside =
+      let none = ap (λ l. less l (from pool parts ns place)) (drop_all place ns done) in
+      let upto : length ns ≡ place = omega arith in (
+        omega (arith, aside.same, ap sum from_all),
+        ap (λ n. take n rest) upto ∙ sym (append-nil (take place rest)) ∙ ap (λ l. take place rest ++ l) (sym none) ∙ aside.begun,
+      )
 
 -- what is left of an admitted pool and its needs is admitted
 pub rest_admitted : (pool : ℕ) (needs first : List ℕ) (places : ℕ) → Admitted pool needs places → Admitted (pool - sum first) (less needs first) places

@@ -1,5 +1,5 @@
 //! Parts, a layer over any rule.
-ghost use Rattle.std.specs.Prelude.{◌≡◌, ◌≤◌, replicate, sum};
+ghost use Rattle.std.specs.Prelude.{◌≡◌, ◌≤◌, replicate, sum, nat_le};
 ghost use Rattle.sharing.specs.Limits.{most_places};
 ghost use Rattle.sharing.specs.Refusals.{parts_answer, list_after};
 ghost use Rattle.sharing.specs.Rules.{ahead, with_parts};
@@ -7,8 +7,7 @@ ghost use Rattle.sharing.specs.KeepingTheLaw.{with_parts_keeps_law};
 
 use crate::parts_refusal::PartsRefusal;
 use crate::refusal::ShareRefusal;
-use crate::rule::{PLACES, SharingRule, admit, saturating_sum};
-use arrayvec::ArrayVec;
+use crate::rule::{PLACES, SharingRule, admit};
 
 /// The whole pool in ten-thousandths.
 pub const WHOLE: u64 = 10_000;
@@ -41,7 +40,7 @@ impl<R> Parts<R> {
         ensures writes { parts_of self.new ≡ list_after result parts.now (parts_of self.old) }
         ensures below { rule_below self.new ≡ rule_below self.old }
     {
-        if parts.len() != PLACES || saturating_sum(parts) > WHOLE {
+        if parts.len() != PLACES || !within_whole(parts) {
             return Err(PartsRefusal::Parts);
         }
         self.parts.copy_from_slice(parts);
@@ -62,19 +61,29 @@ impl<R: SharingRule> SharingRule for Parts<R> {
     fn share(&self, pool: u64, needs: &[u64], shares: &mut [u64]) -> Result<(), ShareRefusal> {
         admit(pool, needs, shares.len())?;
         let mut left = pool;
-        let mut rest = ArrayVec::<u64, PLACES>::new();
-        for (need, part) in needs.iter().zip(&self.parts) {
-            let own = ahead(pool, *part, *need);
+        let mut rest = [0; PLACES];
+        // By places, here and below: after `rest.iter_mut().zip(needs)` no proof knows what was written.
+        for (place, need) in needs.iter().enumerate() {
+            let own = ahead(pool, self.parts[place], *need);
             left -= own;
-            rest.push(*need - own);
+            rest[place] = *need - own;
         }
-        self.rule.share(left, &rest, shares)?;
-        // By places: after `shares.iter_mut().zip(needs)` no proof knows what was written.
+        self.rule.share(left, &rest[..needs.len()], shares)?;
         for (place, need) in needs.iter().enumerate() {
             shares[place] += ahead(pool, self.parts[place], *need);
         }
         Ok(())
     }
+}
+
+// Whether the parts add up to no more than the whole; it ends at the first part that is over what is left of it.
+fn within_whole(parts: &[u64]) -> bool
+    ensures { result ≡ nat_le (sum parts.now) 10000 }
+{
+    parts
+        .iter()
+        .try_fold(WHOLE, |left, part| left.checked_sub(*part))
+        .is_some()
 }
 
 // What a place gets ahead of the others.

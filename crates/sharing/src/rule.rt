@@ -44,7 +44,12 @@ pub fn admit(pool: u64, needs: &[u64], places: usize) -> Result<(), ShareRefusal
 pub fn left_of(pool: u64, shares: &[u64]) -> u64
     ensures { result ≡ pool - sum shares.now }
 {
-    pool.saturating_sub(saturating_sum(shares))
+    let mut left = pool;
+    // By a loop: a `fold` over many shares becomes jumps that are guessed wrong, and takes several times as long.
+    for share in shares {
+        left = left.saturating_sub(*share);
+    }
+    left
 }
 
 // The sum of the amounts, or the largest number where it does not fit.

@@ -1,18 +1,18 @@
-use Rattle.std.proofs.Common.{◌≡◌, ◌-◌, length, drop, sum}
+use Rattle.std.proofs.Common.{◌≡◌, ◌-◌, drop, sum}
 use Rattle.sharing.specs.Law.{plus, less}
 use Rattle.sharing.specs.Rules.{reserved}
 use Rattle.sharing.proofs.Layers.{Aside}
 use Rattle.sharing.proofs.Writing.{Begun}
 use Rattle.sharing.proofs.parts.PartsSharingRule.share.Given as goal
 
-abbrev pub invariant-loop-need : goal.invariant-loop-need
-invariant-loop-need g l =
-    let parts = l.self.parts in
-    let first = reserved l.pool parts l.needs in
-    Aside l.pool parts l.needs (length l.yielded) l.left l.rest.items (l.pool - sum first) (less l.needs first)
-
 abbrev pub invariant-loop-place : goal.invariant-loop-place
 invariant-loop-place g l =
+    let parts = l.self.parts in
+    let first = reserved l.pool parts l.needs in
+    Aside l.pool parts l.needs l.place l.left l.rest (l.pool - sum first) (less l.needs first)
+
+abbrev pub invariant-loop-place-2 : goal.invariant-loop-place-2
+invariant-loop-place-2 g l =
     let to-come = reserved l.pool (drop l.place l.self.parts) (drop l.place l.needs) in
     let first = reserved l.pool l.self.parts l.needs in
     let below = l.initial.shares in
