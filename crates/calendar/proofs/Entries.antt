@@ -1,8 +1,7 @@
 -- The table of the code follows the calendar, by one test that is computed along the whole of it.
 use Rattle.std.proofs.Common.{◌≡◌, ℕ, zero, suc, ◌+◌, ◌-◌, ◌<◌, ◌≤◌, Bool, true, false, ◌&&◌, eqb, leb, List, [], ◌∷◌, length, get_or, drop, Some, sym, refl, ap, ◌∙◌, ⊎_elim, add_comm, add-zero, add-suc, suc-add, zero-add, arith}
-use Rattle.std.proofs.lemmas.Bool.{and_parts, cases_lt, eqb-true, le-leb, lt-leb, leb-false, leb-true}
+use Rattle.std.proofs.lemmas.Bool.{and_parts, cases_lt, eqb-true, leb-false, leb-true}
 use Rattle.std.proofs.lemmas.List.{get_or-drop}
-use Rattle.std.specs.Bool.{then_some}
 use Rattle.std.specs.List.Sorted.{IsNonDecreasing, IsPartitionPoint}
 use Rattle.calendar.proofs.Months.{first_mono, last_first, only_month}
 use Rattle.calendar.specs.Dates.{IsMonthOf}
@@ -48,15 +47,8 @@ module _ (day month : ℕ) (most : month ≤ 1200) (split : IsPartitionPoint (λ
       (λ later. let before : month - 1 + 1 ≡ month = omega arith in omega (arith, ap first_day before, later_is (month - 1) 0 (omega arith), leb-true _ _ (split.0 (month - 1) 0 (omega arith) (omega arith))))
       (cases_lt month 1)
 
-  last_begun : day ≤ 36524 → IsMonthOf day (Some month)
-  last_begun early =
+  pub month_found : day ≤ 36524 → IsMonthOf day (Some month)
+  month_found early =
       let few : month ≤ 1199 = ⊎_elim (λ late. absurd (omega (arith, begun, first_mono 1200 month (omega arith), last_first))) (λ few. few) (cases_lt 1199 month) in
       let ahead : day < first_day (month + 1) = omega (arith, later_is month 0 (omega arith), leb-false _ _ (split.1 month 0 (omega arith) (omega arith))) in
       (few, begun, ahead, only_month month day begun ahead)
-
-  pub month_found : IsMonthOf day (then_some (leb day 36524) month)
-  month_found =
-      ⊎_elim
-      (λ past. rw (lt-leb day 36524 past) past)
-      (λ early. rw (le-leb day 36524 early) (last_begun early))
-      (cases_lt 36524 day)

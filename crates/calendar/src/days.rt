@@ -1,7 +1,7 @@
 //! Days and months by their numbers: day 0 is 1 January 2000, and month 0 is January 2000.
 ghost use Rattle.std.specs.Prelude.{◌≡◌, ◌+◌, ◌≤◌, ◌↔◌, IsTrue, if◌then◌else◌, Some, None, nat_le};
 ghost use Rattle.calendar.specs.Dates.{IsMonthOf};
-ghost use Rattle.calendar.specs.Gregorian.{first_day, last_month, lies_in};
+ghost use Rattle.calendar.specs.Gregorian.{first_day, last_day, last_month, lies_in};
 
 use crate::table::FIRST_DAYS;
 
@@ -43,11 +43,20 @@ pub fn is_in(day: Day, month: Month) -> bool
 pub fn month_of(day: Day) -> Option<Month>
     ensures { IsMonthOf day result }
 {
+    // A day past the last is not looked for in the table.
+    (day <= LAST_DAY).then(|| month_with(day))
+}
+
+// The month in which a day lies.
+fn month_with(day: Day) -> Month
+    requires { day ≤ last_day }
+    ensures { IsMonthOf day (Some result) }
+{
     // January 2000 has begun on each day, so the month's number is how many later months have.
     let month = FIRST_DAYS[1..].partition_point(
         |first|
             ensures { IsTrue result ↔ (first.now ≤ day) }
         { *first <= day },
     );
-    (day <= LAST_DAY).then_some(month as Month)
+    month as Month
 }
